@@ -1,0 +1,9 @@
+pub mod CutLaws
+pub mod TokenLaws
+pub mod SkipLaws
+pub mod RestLaws
+pub mod DecimalLaws
+pub mod SearchLaws
+pub mod PlaceLaws
+pub mod FramerLaws
+pub mod FrontLaws
