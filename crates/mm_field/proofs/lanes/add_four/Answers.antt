@@ -1,0 +1,9 @@
+use Rattle.std.proofs.Common.{arith}
+use Rattle.mm_field.specs.declared.Field.TheVariants.{Four}
+use Rattle.mm_field.proofs.VectorLaws.{axpy_from_entries}
+use Rattle.mm_field.proofs.lanes.add_four.Goals as goal
+
+pub returns : goal.returns
+returns c =
+    axpy_from_entries Four c.args.c c.args.x.now c.args.y.now c.loop-i.y c.requires.same_length c.loop-i.auto.y
+    (λ k lt. c.loop-i.invariant.done k (omega arith))

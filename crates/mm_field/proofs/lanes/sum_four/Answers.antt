@@ -1,0 +1,5 @@
+use Rattle.mm_field.proofs.StepLaws.{four_step}
+use Rattle.mm_field.proofs.lanes.sum_four.Goals as goal
+
+pub returns : goal.returns
+returns c = four_step c.args.c c.args.a c.args.b c.requires.factor c.requires.left c.requires.right

@@ -1,0 +1,5 @@
+use Rattle.mm_field.proofs.StepLaws.{two_step}
+use Rattle.mm_field.proofs.lanes.sum_two.Goals as goal
+
+pub returns : goal.returns
+returns c = two_step c.args.a c.args.b c.requires.left c.requires.right

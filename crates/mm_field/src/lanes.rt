@@ -1,0 +1,199 @@
+//! The kernels of linear algebra: sums and multiples of whole vectors, entry by entry.
+//!
+//! Each field has a loop of its own, without branches or tables, so that the compiler can work on many entries at once.
+#![tactic(auto)]
+
+ghost use Rattle.std.specs.Prelude.{◌≡◌, ◌≢◌, ◌<◌, ◌≤◌, ◌↔◌, ℕ, length, slice_index, IsSome, IfSome, IfNone, All};
+ghost use Rattle.mm_field.specs.Digits.{order, plus, times};
+ghost use Rattle.mm_field.specs.Vectors.{AreDigits, vector_sum, multiple, zeros};
+
+use crate::{Elt, Field};
+
+/// Adds c times x to y, entry by entry.
+#[inline(always)]
+pub fn axpy(f: Field, c: Elt, x: &[u8], y: &mut [u8])
+    requires same_length { length x.now ≡ length y.old }
+    requires factor { c < order f }
+    requires digits_x { AreDigits f x.now }
+    requires digits_y { AreDigits f y.old }
+    ensures { y.new ≡ vector_sum f y.old (multiple f c x.now) }
+{
+    if c == 0 {
+        return;
+    }
+    match f {
+        Field::Two => add_two(x, y),
+        Field::Three => add_three(c, x, y),
+        Field::Four => add_four(c, x, y),
+        Field::Five => add_five(c, x, y),
+    }
+}
+
+/// Makes x into c times x, entry by entry.
+#[inline(always)]
+pub fn scale(f: Field, c: Elt, x: &mut [u8])
+    requires factor { c < order f }
+    requires digits { AreDigits f x.old }
+    ensures { x.new ≡ multiple f c x.old }
+{
+    if c == 1 {
+        return;
+    }
+    for e in x.iter_mut() {
+        *e = f.mul(c, *e);
+    }
+}
+
+/// The least place with a digit other than 0. None exactly where all digits are 0.
+#[inline(always)]
+pub fn first_nonzero(x: &[u8]) -> Option<usize>
+    ensures found { IfSome result (λ p. (p < length x.now) × (slice_index x.now p ≢ 0)) }
+    ensures least { IfSome result (λ p. (k : ℕ) → k < p → slice_index x.now k ≡ 0) }
+    ensures none { IfNone result (x.now ≡ zeros (length x.now)) }
+{
+    for (i, d) in x.iter().enumerate() {
+        if *d != 0 {
+            return Some(i);
+        }
+    }
+    None
+}
+
+// Over GF(2), where the only factor other than 0 is 1.
+#[inline(always)]
+fn add_two(x: &[u8], y: &mut [u8])
+    requires same_length { length x.now ≡ length y.old }
+    requires digits_x { AreDigits Field.Two x.now }
+    requires digits_y { AreDigits Field.Two y.old }
+    ensures { y.new ≡ vector_sum Field.Two y.old (multiple Field.Two 1 x.now) }
+{
+    for i in 0..x.len() {
+        y[i] = sum_two(x[i], y[i]);
+    }
+}
+
+#[inline(always)]
+fn add_three(c: Elt, x: &[u8], y: &mut [u8])
+    requires same_length { length x.now ≡ length y.old }
+    requires factor { c < 3 }
+    requires digits_x { AreDigits Field.Three x.now }
+    requires digits_y { AreDigits Field.Three y.old }
+    ensures { y.new ≡ vector_sum Field.Three y.old (multiple Field.Three c x.now) }
+{
+    for i in 0..x.len() {
+        y[i] = sum_three(c, x[i], y[i]);
+    }
+}
+
+#[inline(always)]
+fn add_four(c: Elt, x: &[u8], y: &mut [u8])
+    requires same_length { length x.now ≡ length y.old }
+    requires factor { c < 4 }
+    requires digits_x { AreDigits Field.Four x.now }
+    requires digits_y { AreDigits Field.Four y.old }
+    ensures { y.new ≡ vector_sum Field.Four y.old (multiple Field.Four c x.now) }
+{
+    for i in 0..x.len() {
+        y[i] = sum_four(c, x[i], y[i]);
+    }
+}
+
+#[inline(always)]
+fn add_five(c: Elt, x: &[u8], y: &mut [u8])
+    requires same_length { length x.now ≡ length y.old }
+    requires factor { c < 5 }
+    requires digits_x { AreDigits Field.Five x.now }
+    requires digits_y { AreDigits Field.Five y.old }
+    ensures { y.new ≡ vector_sum Field.Five y.old (multiple Field.Five c x.now) }
+{
+    for i in 0..x.len() {
+        y[i] = sum_five(c, x[i], y[i]);
+    }
+}
+
+// b + a over GF(2).
+#[inline(always)]
+fn sum_two(a: Elt, b: Elt) -> Elt
+    requires left { a < 2 }
+    requires right { b < 2 }
+    ensures { result ≡ plus Field.Two b (times Field.Two 1 a) }
+{
+    b ^ a
+}
+
+// b + c*a over GF(3).
+#[inline(always)]
+fn sum_three(c: Elt, a: Elt, b: Elt) -> Elt
+    requires factor { c < 3 }
+    requires left { a < 3 }
+    requires right { b < 3 }
+    ensures { result ≡ plus Field.Three b (times Field.Three c a) }
+{
+    (b + c * a) % 3
+}
+
+// b + c*a over GF(4): a where c has bit 0, and 2*a where it has bit 1. In 2*a the high bit of a, times 2, becomes 3.
+#[inline(always)]
+fn sum_four(c: Elt, a: Elt, b: Elt) -> Elt
+    requires factor { c < 4 }
+    requires left { a < 4 }
+    requires right { b < 4 }
+    ensures { result ≡ plus Field.Four b (times Field.Four c a) }
+{
+    let twice = ((a << 1) & 3) ^ (3 * (a >> 1));
+    b ^ (a & (3 * (c & 1))) ^ (twice & (3 * (c >> 1)))
+}
+
+// b + c*a over GF(5).
+#[inline(always)]
+fn sum_five(c: Elt, a: Elt, b: Elt) -> Elt
+    requires factor { c < 5 }
+    requires left { a < 5 }
+    requires right { b < 5 }
+    ensures { result ≡ plus Field.Five b (times Field.Five c a) }
+{
+    (b + c * a) % 5
+}
+
+#[cfg(test)]
+mod tests {
+    use super::*;
+
+    #[test]
+    fn axpy_over_gf4(rt: HostRuntime) {
+        let mut y = [1, 1, 1, 1];
+        axpy(Field::Four, 2, &[0, 1, 2, 3], &mut y);
+        assert_eq!(rt; y, [1, 3, 2, 0]);
+    }
+
+    #[test]
+    fn axpy_over_the_other_fields(rt: HostRuntime) {
+        let mut y = [0, 1, 0, 1];
+        axpy(Field::Two, 1, &[0, 0, 1, 1], &mut y);
+        assert_eq!(rt; y, [0, 1, 1, 0]);
+        let mut y = [0, 1, 2, 2];
+        axpy(Field::Three, 2, &[0, 1, 2, 1], &mut y);
+        assert_eq!(rt; y, [0, 0, 0, 1]);
+        let mut y = [0, 1, 2, 4];
+        axpy(Field::Five, 3, &[1, 1, 2, 4], &mut y);
+        assert_eq!(rt; y, [3, 4, 3, 1]);
+        axpy(Field::Five, 0, &[1, 1, 2, 4], &mut y);
+        assert_eq!(rt; y, [3, 4, 3, 1]);
+    }
+
+    #[test]
+    fn scale_over_gf5(rt: HostRuntime) {
+        let mut x = [1, 2, 3, 4];
+        scale(Field::Five, 3, &mut x);
+        assert_eq!(rt; x, [3, 1, 4, 2]);
+    }
+
+    #[test]
+    fn first_nonzero_of_a_long_row(rt: HostRuntime) {
+        let mut x = [0; 66];
+        x[65] = 1;
+        assert_eq!(rt; first_nonzero(&x), Some(65));
+        assert_eq!(rt; first_nonzero(&[]), None);
+        assert_eq!(rt; first_nonzero(&[0, 0]), None);
+    }
+}
