@@ -1,0 +1,24 @@
+pub mod JoinLaws
+pub mod TypeLaws
+pub mod LeafLaws
+pub mod EchelonLaws
+pub mod InsertLaws
+pub mod StepLaws
+pub mod SpaceLaws
+pub mod SubspaceLaws
+pub mod SumLaws
+pub mod HeadLaws
+pub mod RankLaws
+pub mod IndependenceLaws
+pub mod DecideLaws
+pub mod MeetTest
+pub mod BasisLaws
+pub mod CoordinateLaws
+pub mod SubspaceTests
+pub mod ChangeLaws
+pub mod ThirdBoundary
+pub mod PivotLaws
+pub mod LeftRowsLaws
+pub mod FirstUnits
+mod Examples
+pub mod LeftUnique

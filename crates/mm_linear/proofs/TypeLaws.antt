@@ -1,0 +1,187 @@
+-- The join rule for independence, over rows that span the boundary spaces.
+use Rattle.std.proofs.Common.{ℕ, ◌+◌, ◌≡◌, ◌↔◌, List, ◌++◌, length, map, take, drop, refl, sym, ap, ap₂, ◌∙◌, subst, arith, length-append, take-append-drop, append_assoc}
+use Rattle.std.proofs.lemmas.List.{length-replicate, length-map}
+use Rattle.mm_field.specs.declared.Field.{Field}
+use Rattle.mm_field.specs.Vectors.{zeros, vector_sum, combination, IsVector, AreVectors, InSpan, AreIndependent, through}
+use Rattle.mm_linear.specs.Joins.{InBoundary, InImage, InSum, MeetOnlyInZero, Sides, AreSides, joined, width, Represents}
+use Rattle.mm_field.proofs.VectorLaws.{vector_sum-zeros, zeros-vector_sum}
+use Rattle.mm_field.proofs.CombinationLaws.{IsVector-combination, combination-append, combination-through, InSpan-zeros}
+use Rattle.mm_field.proofs.PartLaws.{IsVector-take, IsVector-drop, IsVector-append, AreVectors-map, zeros-append}
+use Rattle.mm_linear.proofs.JoinLaws.{joined_independent, left_independent, right_independent, images_meet_in_zero, boundary_in_sum, sum_in_boundary}
+
+-- the span of rows and more rows is the sum of both spans
+pub InSum-from_append : (f : Field) (n : ℕ) (rows sows : List (List ℕ)) (z : List ℕ) → AreVectors f n sows →
+    InSpan f n (rows ++ sows) z → InSum f (InSpan f n rows) (InSpan f n sows) z
+InSum-from_append f n rows sows z hs p =
+    let k = length rows in
+    let cs = p.coefficients in
+    let hcs : IsVector f (k + length sows) cs =
+    record { len = p.each.len ∙ length-append rows sows; digits = p.each.digits } in
+    let hx = IsVector-take f k (length sows) cs hcs in
+    record {
+      one = combination f n (take k cs) rows;
+      other = combination f n (drop k cs) sows;
+      in_first = record { coefficients = take k cs; each = hx; sum = refl };
+      in_second = record { coefficients = drop k cs; each = IsVector-drop f k (length sows) cs hcs; sum = refl };
+      sum =
+          sym (combination-append f n (take k cs) (drop k cs) rows sows hx.len hs)
+          ∙ ap (λ c. combination f n c (rows ++ sows)) (take-append-drop k cs)
+          ∙ p.sum;
+    }
+
+pub append_from_InSum : (f : Field) (n : ℕ) (rows sows : List (List ℕ)) (z : List ℕ) → AreVectors f n sows →
+    InSum f (InSpan f n rows) (InSpan f n sows) z → InSpan f n (rows ++ sows) z
+append_from_InSum f n rows sows z hs s =
+    let p = s.in_first in
+    let q = s.in_second in
+    record {
+      coefficients = p.coefficients ++ q.coefficients;
+      each =
+          subst (λ k. IsVector f k (p.coefficients ++ q.coefficients)) (sym (length-append rows sows))
+          (IsVector-append f (length rows) (length sows) p.coefficients q.coefficients p.each q.each);
+      sum =
+          combination-append f n p.coefficients q.coefficients rows sows p.each.len hs
+          ∙ ap₂ (λ x y. vector_sum f x y) p.sum q.sum
+          ∙ s.sum;
+    }
+
+-- the span of the images of rows is the image of their span
+pub record FromSpan (f : Field) (t r : ℕ) (rows g : List (List ℕ)) (z : List ℕ) : Type 0 where
+  pub source : List ℕ
+  pub vector : IsVector f t source
+  pub inside : InSpan f t rows source
+  pub gives : through f r g source ≡ z
+
+pub span_of_images : (f : Field) (t r : ℕ) (rows g : List (List ℕ)) (z : List ℕ) → AreVectors f t rows → AreVectors f r g →
+    InSpan f r (map (through f r g) rows) z → FromSpan f t r rows g z
+span_of_images f t r rows g z hr hg p =
+    let each : IsVector f (length rows) p.coefficients =
+    record { len = p.each.len ∙ length-map rows (through f r g); digits = p.each.digits } in
+    record {
+      source = combination f t p.coefficients rows;
+      vector = IsVector-combination f t p.coefficients rows hr;
+      inside = record { coefficients = p.coefficients; each = each; sum = refl };
+      gives = sym (combination-through f r t p.coefficients rows g hr hg) ∙ p.sum;
+    }
+
+pub image_of_span : (f : Field) (t r : ℕ) (rows g : List (List ℕ)) (b : List ℕ) → AreVectors f t rows → AreVectors f r g →
+    InSpan f t rows b → InSpan f r (map (through f r g) rows) (through f r g b)
+image_of_span f t r rows g b hr hg p = record {
+  coefficients = p.coefficients;
+  each = record { len = p.each.len ∙ sym (length-map rows (through f r g)); digits = p.each.digits };
+  sum = combination-through f r t p.coefficients rows g hr hg ∙ ap (through f r g) p.sum;
+}
+
+pub InImage-represented : (f : Field) (t m r : ℕ) (columns rows g : List (List ℕ)) → AreVectors f r g →
+    Represents f t m columns rows → (z : List ℕ) →
+    InImage f t m r columns g z → InSpan f r (map (through f r g) rows) z
+InImage-represented f t m r columns rows g hg rep z p =
+    subst (λ x. InSpan f r (map (through f r g) rows) x) p.gives
+    (image_of_span f t r rows g p.source rep.each hg (rep.all p.source p.vector p.inside))
+
+pub represented-InImage : (f : Field) (t m r : ℕ) (columns rows g : List (List ℕ)) → AreVectors f r g →
+    Represents f t m columns rows → (z : List ℕ) →
+    InSpan f r (map (through f r g) rows) z → InImage f t m r columns g z
+represented-InImage f t m r columns rows g hg rep z p =
+    let s = span_of_images f t r rows g z rep.each hg p in
+    record { source = s.source; vector = s.vector; inside = rep.inside s.source s.inside; gives = s.gives }
+
+-- W1 and W2 as spans of rows
+abbrev pub images1 : Sides → List (List ℕ) → List (List ℕ)
+images1 j rows = map (through j.f j.r j.g1) rows
+
+abbrev pub images2 : Sides → List (List ℕ) → List (List ℕ)
+images2 j rows = map (through j.f j.r j.g2) rows
+
+pub AreVectors-images : (f : Field) (r : ℕ) (rows g : List (List ℕ)) (t : ℕ) → AreVectors f t rows → AreVectors f r g →
+    AreVectors f r (map (through f r g) rows)
+AreVectors-images f r rows g t hr hg =
+    AreVectors-map f t r (through f r g) (λ u hu. IsVector-combination f r u g hg) rows hr
+
+-- The union is independent exactly where both sides are and the two spans of images meet in zero alone.
+pub join_is_independent : (j : Sides) → AreSides j → (k1 k2 : List (List ℕ)) →
+    Represents j.f j.t1 j.m1 j.columns1 k1 → Represents j.f j.t2 j.m2 j.columns2 k2 →
+    AreIndependent j.f j.r j.g1 → AreIndependent j.f j.r j.g2 →
+    AreIndependent j.f (width j) (joined j)
+    ↔ (AreIndependent j.f (j.t1 + j.m1) j.columns1 × AreIndependent j.f (j.t2 + j.m2) j.columns2
+    × MeetOnlyInZero j.r (InSpan j.f j.r (images1 j k1)) (InSpan j.f j.r (images2 j k2)))
+join_is_independent j h k1 k2 rep1 rep2 ig1 ig2 = (
+  (λ ind. (
+    left_independent j h ind,
+    right_independent j h ind,
+    λ z p q. images_meet_in_zero j h ind z
+        (represented-InImage j.f j.t1 j.m1 j.r j.columns1 k1 j.g1 h.rows1 rep1 z p)
+        (represented-InImage j.f j.t2 j.m2 j.r j.columns2 k2 j.g2 h.rows2 rep2 z q),
+  )),
+  (λ all.
+      joined_independent j h ig1 ig2 all.0 all.1
+      (λ z p q. all.2 z
+      (InImage-represented j.f j.t1 j.m1 j.r j.columns1 k1 j.g1 h.rows1 rep1 z p)
+      (InImage-represented j.f j.t2 j.m2 j.r j.columns2 k2 j.g2 h.rows2 rep2 z q))),
+)
+
+-- The boundary span of the union is all b such that b followed by c zeros is in W1 + W2.
+pub boundary_target : (c m1 m2 : ℕ) (b : List ℕ) → (b ++ zeros c) ++ (zeros m1 ++ zeros m2) ≡ b ++ zeros (c + (m1 + m2))
+boundary_target c m1 m2 b =
+    append_assoc b (zeros c) (zeros m1 ++ zeros m2)
+    ∙ ap (λ x. b ++ (zeros c ++ x)) (zeros-append m1 m2)
+    ∙ ap (λ x. b ++ x) (zeros-append c (m1 + m2))
+
+pub join_boundary : (j : Sides) → AreSides j → (t3 c : ℕ) → j.r ≡ t3 + c → (k1 k2 : List (List ℕ)) →
+    Represents j.f j.t1 j.m1 j.columns1 k1 → Represents j.f j.t2 j.m2 j.columns2 k2 →
+    (b : List ℕ) → length b ≡ t3 →
+    InBoundary j.f t3 (c + (j.m1 + j.m2)) (joined j) b ↔ InSpan j.f j.r (images1 j k1 ++ images2 j k2) (b ++ zeros c)
+join_boundary j h t3 c er k1 k2 rep1 rep2 b lb =
+    let hs = AreVectors-images j.f j.r k2 j.g2 j.t2 rep2.each h.rows2 in
+    let lz : length (b ++ zeros c) ≡ j.r =
+    length-append b (zeros c) ∙ ap₂ (λ x y. x + y) lb (length-replicate c 0) ∙ sym er in
+    let w : t3 + (c + (j.m1 + j.m2)) ≡ width j = omega arith in (
+      (λ p.
+          let p' = subst (λ v. InSpan j.f (width j) (joined j) v) (sym (boundary_target c j.m1 j.m2 b))
+          (subst (λ n. InSpan j.f n (joined j) (b ++ zeros (c + (j.m1 + j.m2)))) w p) in
+          let s = boundary_in_sum j h (b ++ zeros c) lz p' in
+          append_from_InSum j.f j.r (images1 j k1) (images2 j k2) (b ++ zeros c) hs
+          (record {
+            one = s.one;
+            other = s.other;
+            sum = s.sum;
+            in_first = InImage-represented j.f j.t1 j.m1 j.r j.columns1 k1 j.g1 h.rows1 rep1 s.one s.in_first;
+            in_second = InImage-represented j.f j.t2 j.m2 j.r j.columns2 k2 j.g2 h.rows2 rep2 s.other s.in_second;
+          })),
+      (λ p.
+          let s = InSum-from_append j.f j.r (images1 j k1) (images2 j k2) (b ++ zeros c) hs p in
+          let p' = sum_in_boundary j h (b ++ zeros c)
+          (record {
+            one = s.one;
+            other = s.other;
+            sum = s.sum;
+            in_first = represented-InImage j.f j.t1 j.m1 j.r j.columns1 k1 j.g1 h.rows1 rep1 s.one s.in_first;
+            in_second = represented-InImage j.f j.t2 j.m2 j.r j.columns2 k2 j.g2 h.rows2 rep2 s.other s.in_second;
+          }) in
+          subst (λ n. InSpan j.f n (joined j) (b ++ zeros (c + (j.m1 + j.m2)))) (sym w)
+          (subst (λ v. InSpan j.f (width j) (joined j) v) (boundary_target c j.m1 j.m2 b) p')),
+    )
+
+pub append_left_in : (f : Field) (n : ℕ) (rows sows : List (List ℕ)) (z : List ℕ) → AreVectors f n rows → AreVectors f n sows →
+    InSpan f n rows z → InSpan f n (rows ++ sows) z
+append_left_in f n rows sows z hr hs p =
+    append_from_InSum f n rows sows z hs
+    (record {
+      one = z;
+      other = zeros n;
+      in_first = p;
+      in_second = InSpan-zeros f n sows hs;
+      sum = vector_sum-zeros f n z (subst (λ x. IsVector f n x) p.sum (IsVector-combination f n p.coefficients rows hr));
+    })
+
+pub append_right_in : (f : Field) (n : ℕ) (rows sows : List (List ℕ)) (z : List ℕ) → AreVectors f n rows → AreVectors f n sows →
+    InSpan f n sows z → InSpan f n (rows ++ sows) z
+append_right_in f n rows sows z hr hs p =
+    append_from_InSum f n rows sows z hs
+    (record {
+      one = zeros n;
+      other = z;
+      in_first = InSpan-zeros f n rows hr;
+      in_second = p;
+      sum = zeros-vector_sum f n z (subst (λ x. IsVector f n x) p.sum (IsVector-combination f n p.coefficients sows hs));
+    })

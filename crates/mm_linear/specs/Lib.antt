@@ -1,0 +1,9 @@
+pub mod Echelons
+pub mod Eliminate
+pub mod Decide
+pub mod Meets
+pub mod Padded
+pub mod Coordinates
+pub mod LeftRows
+pub mod Subspaces
+pub mod Joins
