@@ -1,0 +1,13 @@
+mod TextLaws
+mod GenTextLaws
+mod RowLaws
+pub mod KeptLaws
+mod SumSteps
+mod Gathering
+mod PreimageLaws
+mod HeadLaws
+mod EqualLaws
+mod TurnedLaws
+mod PackLaws
+mod PackSteps
+pub mod JoinRule

@@ -1,0 +1,18 @@
+use Rattle.std.proofs.Common.{sym, subst, ap, ◌∙◌, ◌↔◌}
+use Rattle.std.specs.Prelude.{IsTrue}
+use Rattle.mm_linear.specs.Meets.{Meet}
+use Rattle.mm_space.specs.SpaceValue.{SpaceValue, corner}
+use Rattle.mm_space.proofs.KeptLaws.{held_of, held_as, meet_of}
+use Rattle.mm_space.proofs.space.Space.meets_only_in_zero.Goals as goal
+
+pub returns : goal.returns
+returns c =
+    let s = c.self.inside in
+    let o = c.other.inside in
+    let same_field = ap (λ (u : SpaceValue). u.f) c.other.view_is ∙ c.requires.field ∙ sym (ap (λ (u : SpaceValue). u.f) c.self.view_is) in
+    let same_length = ap (λ (u : SpaceValue). u.r) c.other.view_is ∙ c.requires.length ∙ sym (ap (λ (u : SpaceValue). u.r) c.self.view_is) in
+    let others = ap (λ r. corner r o.rows) (sym same_length) ∙ ap (λ (u : SpaceValue). u.rows) c.other.view_is in
+    subst (λ rows. IsTrue c.meet_in_zero.result ↔ Meet c.args.self.now.f c.args.self.now.r c.args.self.now.rows rows) others
+    (subst (λ (u : SpaceValue). IsTrue c.meet_in_zero.result ↔ Meet u.f u.r u.rows (corner s.r o.rows)) c.self.view_is
+    (meet_of s.field s.r s.rows o.rows c.meet_in_zero.result (held_of s c.self.invariant)
+    (held_as s o same_field same_length c.other.invariant) c.meet_in_zero.ensures))

@@ -1,0 +1,11 @@
+pub mod GenView
+pub mod Images
+pub mod Insertion
+pub mod KeyValue
+pub mod KeyView
+pub mod Preimages
+pub mod SpaceValue
+pub mod SpaceView
+pub mod StoredDigits
+pub mod VectorText
+pub mod VectorView

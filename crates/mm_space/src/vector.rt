@@ -1,0 +1,151 @@
+//! A vector of at most 18 digits, in place.
+#![tactic(auto)]
+
+ghost use Rattle.std.specs.Prelude.{◌≡◌, ◌<◌, ◌≤◌, ◌↔◌, ℕ, List, [], ◌∷◌, IsTrue, length, slice_index, take, IfSome, IfNone};
+ghost use Rattle.mm_linear.specs.Padded.{padded};
+ghost use Rattle.mm_space.specs.VectorText.{IsVectorText};
+ghost use Rattle.mm_space.specs.StoredDigits.{ZeroAfter};
+
+use crate::{MAX_DIGITS, WIDTH};
+use mm_field::{Elt, Field};
+use std::marker::Model;
+
+/// A vector of at most 18 digits. Contracts see it as the list of its digits.
+#[derive(Clone, Copy, PartialEq, Eq, Hash, Debug)]
+pub struct Vector {
+    len: u8,
+    // The digits, and then zeros.
+    digits: [u8; WIDTH],
+}
+
+impl Model for Vector {
+    ghost use Rattle.std.specs.Prelude.{ℕ, List, length, take};
+    ghost use Rattle.mm_linear.specs.Padded.{padded};
+
+    ghost Value = { List ℕ };
+
+    ghost use Rattle.mm_space.specs.VectorView.{IsStored};
+
+    ghost view = { λ a. take a.len a.digits };
+
+    ghost invariant = { IsStored };
+
+    ghost inverse = { λ v. record { len = length v; digits = padded 24 v } };
+
+    ghost inverse_ok = { λ a h. h.back };
+}
+
+impl Vector {
+    /// The vector that the bytes show: `-` for no digits, else 1 to 18 ASCII digits of the field. None exactly where the
+    /// bytes show no vector.
+    pub fn read(f: Field, bytes: &[u8]) -> Option<Vector>
+        ensures shown { IfSome result (λ v. IsVectorText f v bytes.now) }
+        ensures none { IfNone result ((v : List ℕ) → IsVectorText f v bytes.now → ⊥) }
+    {
+        if is_byte(bytes, b'-') {
+            return Some(Vector::none());
+        }
+        if bytes.is_empty() || bytes.len() > MAX_DIGITS as usize {
+            return None;
+        }
+        Vector::read_digits(f, bytes)
+    }
+
+    // The vector of the digits that the bytes show.
+    fn read_digits(f: Field, bytes: &[u8]) -> Option<Vector>
+        requires some { 0 < length bytes.now }
+        requires short { length bytes.now ≤ 18 }
+        requires no_dash { bytes.now ≡ 45 ∷ [] → ⊥ }
+        ensures shown { IfSome result (λ v. IsVectorText f v bytes.now) }
+        ensures none { IfNone result ((v : List ℕ) → IsVectorText f v bytes.now → ⊥) }
+    {
+        let mut digits = [0; WIDTH];
+        for i in 0..bytes.len() {
+            match f.digit(bytes[i]) {
+                Some(d) => digits[i] = d,
+                None => return None,
+            }
+        }
+        Some(Vector::of(bytes.len() as u8, digits))
+    }
+
+    /// How many digits the vector has.
+    #[inline]
+    pub fn len(&self) -> u8
+        ensures { result ≡ length self.now }
+    {
+        self.len
+    }
+
+    /// Digit k, counted from 0.
+    #[inline]
+    pub fn at(&self, k: u8) -> Elt
+        requires { k < length self.now }
+        ensures { result ≡ slice_index self.now k }
+    {
+        self.digits[k as usize]
+    }
+
+    // The vector of no digits.
+    pub(crate) fn none() -> Vector
+        ensures { result ≡ [] }
+    {
+        Vector::of(0, [0; WIDTH])
+    }
+
+    // The digits, with zeros after them.
+    #[inline]
+    pub(crate) fn stored(&self) -> &[u8; WIDTH]
+        ensures { result.now ≡ padded 24 self.now }
+    {
+        &self.digits
+    }
+
+    // The vector of the first digits of an array that has zeros after them.
+    #[inline]
+    pub(crate) fn of(len: u8, digits: [u8; WIDTH]) -> Vector
+        requires short { len ≤ 18 }
+        requires size { length digits ≡ 24 }
+        requires zeros { ZeroAfter len digits }
+        ensures { result ≡ take len digits }
+    {
+        Vector { len, digits }
+    }
+}
+
+// Whether the bytes are b alone.
+#[inline]
+pub(crate) fn is_byte(bytes: &[u8], b: u8) -> bool
+    ensures { IsTrue result ↔ (bytes.now ≡ b ∷ []) }
+{
+    bytes.len() == 1 && bytes[0] == b
+}
+
+#[cfg(test)]
+mod tests {
+    use super::*;
+
+    #[test]
+    fn vectors_read(rt: HostRuntime) {
+        let v = Vector::read(Field::Three, b"12");
+        assert_eq!(rt; v.map(|v| v.len()), Some(2));
+        assert_eq!(rt;
+            v,
+            Some(Vector::of(
+                2,
+                [
+                    1, 2, 0, 0, 0, 0, 0, 0, 0, 0, 0, 0, 0, 0, 0, 0, 0, 0, 0, 0, 0, 0, 0, 0
+                ]
+            ))
+        );
+        assert_eq!(rt; Vector::read(Field::Three, b"13"), None);
+        assert_eq!(rt; Vector::read(Field::Three, b"-"), Some(Vector::none()));
+        assert_eq!(rt; Vector::read(Field::Three, b""), None);
+        assert_eq!(rt; Vector::read(Field::Three, b"-1"), None);
+        assert_eq!(rt;
+            Vector::read(Field::Two, b"101010101010101010").map(|v| v.len()),
+            Some(18)
+        );
+        assert_eq!(rt; Vector::read(Field::Two, b"1010101010101010101"), None);
+    }
+}
