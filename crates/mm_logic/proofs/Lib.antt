@@ -1,0 +1,5 @@
+pub mod SetLemmas
+pub mod ValueLemmas
+pub mod OccurrenceLemmas
+pub mod BagLemmas
+pub mod GrowthLemmas

@@ -1,0 +1,63 @@
+-- The matrix of a tree, by its columns, and independence in it.
+use Rattle.std.specs.Prelude.{◌≡◌, ℕ, ◌+◌, Bool, List, [], ◌∷◌, ◌++◌, map, slice_index}
+use Rattle.std.specs.List.{items_where_true}
+use Rattle.mm_field.specs.declared.Field.{Field}
+use Rattle.mm_field.specs.Vectors.{vector_sum, combination, through, IsVector, AreIndependent}
+use Rattle.mm_linear.specs.Joins.{left_column, right_column}
+use Rattle.mm_linear.specs.Decide.{is_independent}
+use Rattle.mm_linear.specs.Coordinates.{unit, free_columns, completed, coordinates, in_coordinates}
+use Rattle.mm_logic.specs.Operator.{Op, row_length}
+use Rattle.mm_logic.specs.Tree.{Tree, boundary}
+use Rattle.mm_logic.specs.Tree.Tree.{Elem, Void, Join}
+
+-- How many internal rows the matrix of a tree has: those that no element outside the tree meets.
+abbrev pub internal : Tree → ℕ
+internal (Elem vec) = 0
+internal (Void t) = 0
+internal (Join op l r) = op.c + (internal l + internal r)
+
+-- A vector x of the space of a join is b times G3 plus the vector that has y at the free columns of G3 and zeros at its pivot
+-- columns: b are its boundary digits, y its new internal digits.
+pub record IsColumn (f : Field) (op : Op) (x b y : List ℕ) : Type 0 where
+  pub boundary_digits : IsVector f op.t3 b
+  pub internal_digits : IsVector f op.c y
+  pub sum :
+      x ≡ vector_sum f (through f (row_length op) op.g3 b)
+      (combination f (row_length op) y (map (unit (row_length op)) (free_columns f (row_length op) op.g3)))
+
+-- b and then y, by elimination: the coordinates of x in the basis of the rows of G3 and the unit vectors at its free columns
+abbrev pub column_digits : Field → Op → List ℕ → List ℕ
+column_digits f op x = coordinates f (row_length op) (completed f (row_length op) op.g3) x
+
+-- The columns of the matrix of a tree, one for each element in leaf order, each with its boundary digits and then its internal
+-- digits. The one column of an element's leaf is its vector. At a join the boundary digits of a column of the left child times G1,
+-- or of the right child times G2, are a vector x of the space of the join; the column then has b and y of x, its internal digits
+-- as a column of the left child, and those as a column of the right child, with zeros for the other child.
+abbrev pub columns : Field → Tree → List (List ℕ)
+columns f (Elem vec) = vec ∷ []
+columns f (Void t) = []
+columns f (Join op l r) =
+    map (in_coordinates f (row_length op) (completed f (row_length op) op.g3))
+    (map (left_column f op.t1 (row_length op) op.g1 (internal r)) (columns f l)
+    ++ map (right_column f op.t2 (row_length op) op.g2 (internal l)) (columns f r))
+
+-- Row i of the matrix of a tree: the boundary rows come first.
+abbrev pub matrix_row : Field → Tree → ℕ → List ℕ
+matrix_row f T i = map (λ u. slice_index u i) (columns f T)
+
+-- Internal row i of the matrix of a tree.
+abbrev pub internal_row : Field → Tree → ℕ → List ℕ
+internal_row f T i = matrix_row f T (boundary T + i)
+
+-- The columns of a set of elements, which is given by one test for each element in leaf order.
+abbrev pub chosen : Field → Tree → List Bool → List (List ℕ)
+chosen f T X = items_where_true X (columns f T)
+
+-- A set of elements is independent where only all-zero coefficients combine its columns to the zero column. (The vector matroid
+-- of the matrix: Oxley, Matroid Theory, section 1.1.)
+abbrev pub IsIndependent : Field → Tree → List Bool → Type 0
+IsIndependent f T X = AreIndependent f (boundary T + internal T) (chosen f T X)
+
+-- The same, decided by elimination.
+abbrev pub is_independent_set : Field → Tree → List Bool → Bool
+is_independent_set f T X = is_independent f (boundary T + internal T) (chosen f T X)
