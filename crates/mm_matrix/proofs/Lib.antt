@@ -1,0 +1,9 @@
+pub mod RowLaws
+pub mod RestLaws
+pub mod InsertionLaws
+pub mod ReducedLaws
+pub mod DotLaws
+pub mod DimensionLaws
+pub mod NullLaws
+pub mod FreeLaws
+pub mod ShareLaws

@@ -1,0 +1,14 @@
+//! Matrices over GF(q): rows of digits, their elimination, and the rows that are orthogonal to them.
+#![tactic(auto)]
+
+mod echelon;
+mod elimination;
+mod matrix;
+mod orthogonality;
+
+pub use echelon::Echelon;
+pub use matrix::Matrix;
+pub use orthogonality::orthogonal;
+
+#[cfg(test)]
+mod tests;

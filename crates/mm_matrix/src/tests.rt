@@ -1,0 +1,54 @@
+//! Matrices with known row spaces.
+
+use crate::{Echelon, Matrix, orthogonal};
+use mm_field::Field;
+use std::test::Fail;
+
+#[test]
+fn row_outside(rt: HostRuntime) -> Result<(), Fail> {
+    let alloc = rt.alloc();
+    let mut one = Matrix::new(alloc, Field::Two, 3);
+    one.push_row(alloc, &[1, 0, 1])?;
+    let space = Echelon::of(alloc, &one)?;
+    assert_eq!(rt; space.rank(), 1);
+    let mut two = Matrix::new(alloc, Field::Two, 3);
+    two.push_row(alloc, &[1, 0, 1])?;
+    two.push_row(alloc, &[0, 1, 1])?;
+    assert_eq!(rt; space.first_outside(alloc, &two)?, Some(1));
+    assert_eq!(rt; Echelon::of(alloc, &two)?.first_outside(alloc, &one)?, None);
+    Ok(())
+}
+
+#[test]
+fn entries(rt: HostRuntime) -> Result<(), Fail> {
+    let alloc = rt.alloc();
+    let mut m = Matrix::new(alloc, Field::Five, 2);
+    m.push_row(alloc, &[1, 2])?;
+    m.set(0, 1, 4);
+    assert_eq!(rt; m.get(0, 1), 4);
+    assert_eq!(rt; m.row(0), [1, 4].as_slice());
+    assert_eq!(rt; (m.rows(), m.cols()), (1, 2));
+    Ok(())
+}
+
+#[test]
+fn multiples_over_gf4_have_rank_one(rt: HostRuntime) -> Result<(), Fail> {
+    let alloc = rt.alloc();
+    let mut m = Matrix::new(alloc, Field::Four, 2);
+    m.push_row(alloc, &[3, 2])?;
+    m.push_row(alloc, &[1, 3])?;
+    assert_eq!(rt; Echelon::of(alloc, &m)?.rank(), 1);
+    Ok(())
+}
+
+#[test]
+fn a_circuit_is_orthogonal_to_all_ones(rt: HostRuntime) -> Result<(), Fail> {
+    let alloc = rt.alloc();
+    let mut m = Matrix::new(alloc, Field::Two, 3);
+    m.push_row(alloc, &[1, 0, 1])?;
+    m.push_row(alloc, &[0, 1, 1])?;
+    let basis = orthogonal(alloc, &m)?;
+    assert_eq!(rt; basis.rows(), 1);
+    assert_eq!(rt; basis.row(0), [1, 1, 1].as_slice());
+    Ok(())
+}
