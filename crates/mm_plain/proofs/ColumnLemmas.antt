@@ -1,0 +1,110 @@
+-- Lists of rows, and the columns of a join.
+use Rattle.std.proofs.Common.{◌≡◌, ◌<◌, ◌≤◌, ◌+◌, ◌-◌, ℕ, suc, Bool, true, false, not, cond, List, [], ◌∷◌, ◌++◌, map, filter, length, get_or, take, drop, refl, sym, ap, ap₂, ◌∙◌, subst, arith, append-nil}
+use Rattle.std.specs.List.{range_with_len}
+use Rattle.std.specs.declared.vec.Vec.{Vec}
+use Rattle.std.proofs.lemmas.List.{take_all, map-append, length-drop, get_or-map, length-map, take_at, drop_at}
+use Rattle.std.proofs.lemmas.List.Elements.{filter-append}
+use Rattle.std.proofs.lemmas.List.FromFn.{map-range_with_len_more}
+use Rattle.mm_field.specs.declared.Field.{Field}
+use Rattle.mm_field.specs.Vectors.{AreDigits, AreVectors, zeros, through}
+use Rattle.mm_linear.specs.Coordinates.{unit, is_pivot, completed, coordinates, in_coordinates}
+use Rattle.mm_field.proofs.CombinationLaws.{IsVector-combination}
+use Rattle.mm_linear.specs.Joins.{left_column, right_column}
+use Rattle.mm_linear.proofs.BasisLaws.{completed_is_basis}
+use Rattle.mm_logic.specs.Operator as operator
+use Rattle.mm_plain.specs.Rows.{rows_of}
+use Rattle.mm_plain.specs.Trees.{joined_column, joined_columns}
+
+-- a list of numbers is its first one and the others
+pub digits_split : (ds : List ℕ) → 1 ≤ length ds → ds ≡ get_or ds 0 0 ∷ take (length ds - 1) (drop 1 ds)
+digits_split [] l = absurd (omega arith)
+digits_split (d ∷ ds) l = ap (λ xs. d ∷ xs) (sym (all ds (length (d ∷ ds) - 1) (omega arith)))
+  where
+    all : (xs : List ℕ) (n : ℕ) → n ≡ length xs → take n xs ≡ xs
+    all xs n e = ap (λ k. take k xs) e ∙ take_all (length xs) xs (omega arith)
+
+pub other_digits : (f : Field) (d : ℕ) (ds : List ℕ) → AreDigits f (d ∷ ds) → AreDigits f ds
+other_digits f d ds h k e l = h (suc k) e (omega (arith, l))
+
+-- rows cut off at their own length are as they were
+pub cut_at_length : (f : Field) (r : ℕ) (rows : List (List ℕ)) → AreVectors f r rows → map (take r) rows ≡ rows
+cut_at_length f r [] h = refl
+cut_at_length f r (v ∷ rows) h =
+    (λ i. take_all r v (let e = (h 0 v (omega arith)).len in omega arith) i ∷ cut_at_length f r rows (λ k d l. h (suc k) d (omega (arith, l))) i)
+
+one_more : (k : ℕ) → range_with_len 0 (k + 1) ≡ range_with_len 0 k ++ (k ∷ [])
+one_more k = sym (same (range_with_len 0 (k + 1))) ∙ map-range_with_len_more (λ x. x) 0 k k (omega arith) ∙ ap (λ xs. xs ++ (k ∷ [])) (same (range_with_len 0 k))
+  where
+    same : (xs : List ℕ) → map (λ x. x) xs ≡ xs
+    same [] = refl
+    same (x ∷ xs) = ap (λ ys. x ∷ ys) (same xs)
+
+-- the unit vectors at the free columns up to k + 1 are those up to k, and perhaps one more
+pub free_next : (f : Field) (r k : ℕ) (g : List (List ℕ)) (b : Bool) → b ≡ is_pivot f g k →
+    map (unit r) (filter (λ j. not (is_pivot f g j)) (range_with_len 0 (k + 1)))
+    ≡ map (unit r) (filter (λ j. not (is_pivot f g j)) (range_with_len 0 k)) ++ cond (not b) (unit r k ∷ []) []
+free_next f r k g b e =
+    ap (λ xs. map (unit r) (filter q xs)) (one_more k)
+    ∙ ap (map (unit r)) (filter-append q (range_with_len 0 k) (k ∷ []))
+    ∙ map-append (unit r) (filter q (range_with_len 0 k)) (filter q (k ∷ []))
+    ∙ ap (λ xs. map (unit r) (filter q (range_with_len 0 k)) ++ xs) (by (is_pivot f g k) ∙ ap (λ c. cond (not c) (unit r k ∷ []) []) (sym e))
+  where
+    q : ℕ → Bool
+    q = λ j. not (is_pivot f g j)
+
+    by : (c : Bool) → map (unit r) (cond (not c) (k ∷ []) []) ≡ cond (not c) (unit r k ∷ []) []
+    by true = refl
+    by false = refl
+
+-- the part of a list from a place on
+pub tail_part : {A : Type 0} (t : ℕ) (v : List A) → take (length v - t) (drop t v) ≡ drop t v
+tail_part t v = take_all (length v - t) (drop t v) (let e = length-drop t v in omega (arith, e))
+
+-- row i of the rows, as a row
+pub row_at : {A : Type 0} (rows : List (Vec ℕ A)) (i : ℕ) (row : Vec ℕ A) (d : List ℕ) → i < length rows → row ≡ get_or rows i row →
+    get_or (rows_of rows) i d ≡ row.items
+row_at rows i row d l e = get_or-map (λ v. v.items) rows i row d l ∙ ap (λ v. v.items) (sym e)
+
+-- ---- the columns of a join
+
+in_parts : (f : Field) (r : ℕ) (basis g : List (List ℕ)) (b w : List ℕ) → AreVectors f r g →
+    in_coordinates f r basis (through f r g b ++ w) ≡ coordinates f r basis (through f r g b) ++ w
+in_parts f r basis g b w hg =
+    let l = (IsVector-combination f r b g hg).len in
+    ap₂ (λ x y. coordinates f r basis x ++ y) (take_at (through f r g b) w r l) (drop_at (through f r g b) w r l)
+
+pub left_joined : (f : Field) (r t m2 : ℕ) (basis g ls : List (List ℕ)) → AreVectors f r g →
+    map (in_coordinates f r basis) (map (left_column f t r g m2) ls) ≡ map (joined_column f r basis g t 0 m2) ls
+left_joined f r t m2 basis g [] hg = refl
+left_joined f r t m2 basis g (v ∷ ls) hg =
+    ap₂ (λ x xs. x ∷ xs) (in_parts f r basis g (take t v) (drop t v ++ zeros m2) hg) (left_joined f r t m2 basis g ls hg)
+
+pub right_joined : (f : Field) (r t m1 : ℕ) (basis g rs : List (List ℕ)) → AreVectors f r g →
+    map (in_coordinates f r basis) (map (right_column f t r g m1) rs) ≡ map (joined_column f r basis g t m1 0) rs
+right_joined f r t m1 basis g [] hg = refl
+right_joined f r t m1 basis g (v ∷ rs) hg =
+    ap₂ (λ x xs. x ∷ xs)
+    (in_parts f r basis g (take t v) (zeros m1 ++ drop t v) hg
+    ∙ ap (λ w. coordinates f r basis (through f r g (take t v)) ++ (zeros m1 ++ w)) (sym (append-nil (drop t v))))
+    (right_joined f r t m1 basis g rs hg)
+
+pub joined_parts : (f : Field) (op : operator.Op) (m1 m2 : ℕ) (ls rs : List (List ℕ)) → operator.IsValidOp f op →
+    map (joined_column f (operator.row_length op) (completed f (operator.row_length op) op.g3) op.g1 op.t1 0 m2) ls
+    ++ map (joined_column f (operator.row_length op) (completed f (operator.row_length op) op.g3) op.g2 op.t2 m1 0) rs
+    ≡ joined_columns f op m1 m2 ls rs
+joined_parts f op m1 m2 ls rs ok =
+    let r = operator.row_length op in
+    let basis = completed f r op.g3 in
+    sym (map-append (in_coordinates f r basis) (map (left_column f op.t1 r op.g1 m2) ls) (map (right_column f op.t2 r op.g2 m1) rs)
+    ∙ ap₂ (λ x y. x ++ y) (left_joined f r op.t1 m2 basis op.g1 ls ok.first.rows) (right_joined f r op.t2 m1 basis op.g2 rs ok.second.rows))
+
+-- the completed basis of a valid operator
+pub basis_known : {A : Type 0} (f : Field) (op : operator.Op) (basis : List (Vec ℕ A)) → operator.IsValidOp f op →
+    rows_of basis ≡ completed f (operator.row_length op) op.g3 →
+    (length basis ≡ operator.row_length op) × AreVectors f (length basis) (rows_of basis)
+basis_known f op basis ok e =
+    let b = completed_is_basis f (operator.row_length op) op.g3 ok.third.rows ok.third.independent in
+    let l : length basis ≡ operator.row_length op = sym (length-map basis (λ v. v.items)) ∙ ap length e ∙ b.count in (
+      l,
+      subst (λ n. AreVectors f n (rows_of basis)) (sym l) (subst (λ xs. AreVectors f (operator.row_length op) xs) (sym e) b.each),
+    )

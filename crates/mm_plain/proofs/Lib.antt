@@ -1,0 +1,4 @@
+pub mod SpanLemmas
+pub mod ColumnLemmas
+pub mod AssignmentLemmas
+pub mod WeightLemmas

@@ -1,0 +1,5 @@
+pub mod Rows
+pub mod Trees
+pub mod Formulas
+pub mod Asked
+pub mod LeastSets

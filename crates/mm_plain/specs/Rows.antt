@@ -1,0 +1,7 @@
+-- The lists of digits that the program holds.
+use Rattle.std.specs.Prelude.{ℕ, List, map}
+use Rattle.std.specs.declared.vec.Vec.{Vec}
+
+-- the digits of the rows
+abbrev pub rows_of : {A : Type 0} → List (Vec ℕ A) → List (List ℕ)
+rows_of rows = map (λ v. v.items) rows
