@@ -1,0 +1,4 @@
+pub mod OpValue
+pub mod OpView
+pub mod OpFaults
+pub mod Tables
