@@ -1,0 +1,14 @@
+pub mod NamedTree
+pub mod Ways
+pub mod ValidTree
+pub mod TreeCode
+pub mod TreeValue
+pub mod TreeView
+pub mod Nodes
+pub mod Places
+pub mod Weights
+pub mod Steps
+pub mod Replacing
+pub mod Collecting
+pub mod Building
+pub mod BuilderView

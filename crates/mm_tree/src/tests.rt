@@ -1,0 +1,138 @@
+//! Trees of one join over GF(2), and what is read off and changed in them.
+
+ghost use Rattle.mm_field.specs.declared.Field.TheVariants.{Two};
+ghost use Rattle.mm_tree.specs.Building.{AreOver};
+ghost use Rattle.std.specs.Prelude.{IfSome, ◌≡◌};
+
+use crate::{BuildFault, Builder, Tree};
+use mm_base::Name;
+use mm_field::Field;
+use mm_ops::{Op, OpTable};
+use mm_space::{Gen, Vector};
+use std::alloc::Global;
+use std::test::Fail;
+
+/// A leaf with an element of the boundary 1 and the weight 5.
+fn leaf(alloc: Global, name: &[u8]) -> Option<Tree>
+    ensures { IfSome result (λ tree. tree.f ≡ Two) }
+{
+    let mut builder = Builder::new(alloc, Field::Two);
+    let name = Name::read(name)?;
+    let vec = Vector::read(Field::Two, b"1")?;
+    if vec.len() > 6 {
+        return None;
+    }
+    builder.elem(alloc, name, vec, 5).ok()?;
+    builder.finish().ok()
+}
+
+#[test]
+fn a_leaf_has_its_name_and_weight(rt: HostRuntime) -> Result<(), Fail> {
+    let alloc = rt.alloc();
+    let mut tree = leaf(alloc, b"a").ok_or("a leaf")?;
+    let name = Name::read(b"a").ok_or("a name")?;
+    assert_eq!(rt; tree.leaves(alloc)?.len(), 1);
+    assert_eq!(rt; (tree.depth(), tree.nodes(), tree.boundary()), (0, 1, 1));
+    if tree.has_element(&name) {
+        assert_eq!(rt; tree.weight_of(&name), 5);
+        tree.set_weight(&name, -7);
+    }
+    if tree.has_element(&name) {
+        assert_eq!(rt; tree.weight_of(&name), -7);
+    }
+    Ok(())
+}
+
+#[test]
+fn names_are_taken_outside_alone(rt: HostRuntime) -> Result<(), Fail> {
+    let alloc = rt.alloc();
+    let tree = leaf(alloc, b"a").ok_or("a leaf")?;
+    let name = Name::read(b"a").ok_or("a name")?;
+    let place = tree.place(&name, 0).ok_or("a place")?;
+    assert_eq!(rt; tree.check_replace(alloc, &place, &tree), Ok(()));
+    assert_eq!(rt; tree.place(&name, 1), None);
+    Ok(())
+}
+
+#[test]
+fn joins_are_refused_in_order(rt: HostRuntime) -> Result<(), Fail> {
+    let alloc = rt.alloc();
+    let mut builder = Builder::new(alloc, Field::Two);
+    let name = Name::read(b"a").ok_or("a name")?;
+    assert_eq!(rt; builder.void(alloc, name, 1), Ok(()));
+    assert_eq!(rt;
+        builder.void(alloc, name, 1),
+        Err(BuildFault::NameTaken(name))
+    );
+    let ops = OpTable::new(alloc);
+    assert_eq!(rt;
+        builder.join(alloc, &ops, &name),
+        Err(BuildFault::UnknownOp(name))
+    );
+    Ok(())
+}
+
+/// The one operator j over GF(2), which keeps the boundaries of two children of one digit.
+fn table(alloc: Global) -> Option<OpTable>
+    ensures { IfSome result (λ ops. AreOver Two ops) }
+{
+    let first = Gen::read(Field::Two, b"10")?;
+    let second = Gen::read(Field::Two, b"01")?;
+    let op = Op::new(Field::Two, 1, 1, 2, 0, first, second).ok()?;
+    let mut ops = OpTable::new(alloc);
+    ops.add(alloc, Name::read(b"j")?, op).ok()?;
+    Some(ops)
+}
+
+/// Puts an element of the boundary 1 and the weight 5 behind those that are there.
+fn add(alloc: Global, builder: &mut Builder, name: &[u8]) -> Option<()>
+    requires { builder.old.f ≡ Two }
+    ensures { builder.new.f ≡ Two }
+{
+    let name = Name::read(name)?;
+    let vec = Vector::read(Field::Two, b"1")?;
+    if vec.len() > 6 {
+        return None;
+    }
+    builder.elem(alloc, name, vec, 5).ok()
+}
+
+/// Joins the last two trees by j.
+fn join(alloc: Global, builder: &mut Builder) -> Option<()>
+    requires { builder.old.f ≡ Two }
+    ensures { builder.new.f ≡ Two }
+{
+    let ops = table(alloc)?;
+    builder.join(alloc, &ops, &Name::read(b"j")?).ok()
+}
+
+/// The leaves a and b, joined by j.
+fn pair(alloc: Global) -> Option<Tree>
+    ensures { IfSome result (λ tree. tree.f ≡ Two) }
+{
+    let mut builder = Builder::new(alloc, Field::Two);
+    add(alloc, &mut builder, b"a")?;
+    add(alloc, &mut builder, b"b")?;
+    join(alloc, &mut builder)?;
+    builder.finish().ok()
+}
+
+#[test]
+fn a_leaf_takes_the_place_of_another(rt: HostRuntime) -> Result<(), Fail> {
+    let alloc = rt.alloc();
+    let mut tree = pair(alloc).ok_or("two leaves")?;
+    let new = leaf(alloc, b"c").ok_or("a leaf")?;
+    let b = Name::read(b"b").ok_or("a name")?;
+    let c = Name::read(b"c").ok_or("a name")?;
+    let root = tree.place(&b, 1).ok_or("the root")?;
+    assert_eq!(rt; tree.boundary_at(&root), 2);
+    let place = tree.place(&b, 0).ok_or("a place")?;
+    assert_eq!(rt; (place.number(), place.depth()), (2, 1));
+    if let Ok(()) = tree.check_replace(alloc, &place, &new) {
+        let old = tree.splice(&place, new);
+        assert!(rt; old.has_leaf(&b));
+    }
+    assert!(rt; tree.has_leaf(&c));
+    assert!(rt; !tree.has_leaf(&b));
+    Ok(())
+}

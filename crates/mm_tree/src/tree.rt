@@ -1,0 +1,182 @@
+//! Trees that are always valid.
+
+ghost use Rattle.std.specs.Prelude.{◌≡◌, ◌≤◌, ℕ, nat_abs, Some, None, IfSome, IfOk, IsTrue};
+ghost use Rattle.mm_tree.specs.NamedTree.{boundary, depth, nodes, leaf_names, element_names, is_one_of};
+ghost use Rattle.mm_tree.specs.Nodes.{named, IsOver};
+ghost use Rattle.mm_tree.specs.Places.{IsPlaceOf, way_above, way_of, place_at_end};
+ghost use Rattle.mm_tree.specs.Replacing.{Answers, replace_fault};
+ghost use Rattle.mm_tree.specs.ValidTree.{IsValidTree, most_weight};
+ghost use Rattle.mm_tree.specs.Ways.{node_at, with_node, with_weight};
+ghost use Rattle.mm_tree.specs.Weights.{weight_named};
+
+use crate::place::{Reached, search};
+use crate::splice::{Sought, Spliced};
+use crate::{MAX_DEPTH, MAX_LEAVES, Node, Place, ReplaceFault, replace, splice, walk};
+use indexmap::IndexSet;
+use mm_base::{Name, NameList, NoMemory};
+use std::alloc::Global;
+use std::marker::Model;
+
+/// A parse tree over a field, at most 8192 leaves with different names, none deeper than 1023, whose joins take the boundaries that
+/// their children have.
+#[derive(Drop)]
+pub struct Tree {
+    pub(crate) node: Node,
+}
+
+impl Model for Tree {
+    ghost use Rattle.mm_tree.specs.TreeValue.{TreeValue, tree_value_code};
+
+    ghost Value = { TreeValue };
+
+    ghost coded = { tree_value_code };
+
+    ghost use Rattle.mm_tree.specs.TreeView.{value_of, IsKept};
+
+    ghost view = { value_of };
+
+    ghost invariant = { IsKept };
+}
+
+impl Tree {
+    /// The root. Every leaf and operator below is over the tree's field.
+    pub fn node(&self) -> &Node
+        ensures tree { named result.now ≡ self.now.tree }
+        ensures over { IsOver self.now.f result.now }
+        ensures valid { IsValidTree self.now.f self.now.tree }
+    {
+        &self.node
+    }
+
+    /// How many digits the boundary has.
+    pub fn boundary(&self) -> u8
+        ensures { result ≡ boundary self.now.tree }
+    {
+        walk::boundary(&self.node)
+    }
+
+    /// How many joins stand above the deepest leaf.
+    pub fn depth(&self) -> u32
+        ensures { result ≡ depth self.now.tree }
+    {
+        walk::depth(&self.node)
+    }
+
+    /// How many nodes there are, leaves and joins together.
+    pub fn nodes(&self) -> u32
+        ensures { result ≡ nodes self.now.tree }
+    {
+        walk::nodes(&self.node)
+    }
+
+    /// Whether a leaf has the name.
+    pub fn has_leaf(&self, name: &Name) -> bool
+        ensures { result ≡ is_one_of name.now (leaf_names self.now.tree) }
+    {
+        walk::has_leaf(&self.node, name)
+    }
+
+    /// Whether an element has the name.
+    pub fn has_element(&self, name: &Name) -> bool
+        ensures { result ≡ is_one_of name.now (element_names self.now.tree) }
+    {
+        walk::has_element(&self.node, name)
+    }
+
+    /// The names of all leaves, from left to right.
+    pub fn leaves(&self, alloc: Global) -> Result<NameList, NoMemory>
+        ensures { IfOk result (λ names. names ≡ leaf_names self.now.tree) }
+    {
+        let mut names = NameList::new(alloc);
+        walk::push_leaves(alloc, &self.node, &mut names)?;
+        Ok(names)
+    }
+
+    /// The weight of the element of this name.
+    pub fn weight_of(&self, name: &Name) -> i64
+        requires { IsTrue (is_one_of name.now (element_names self.now.tree)) }
+        ensures { weight_named name.now self.now.tree ≡ Some result }
+    {
+        walk::weight_of(&self.node, name).unwrap_or(0)
+    }
+
+    /// Gives the element of this name another weight.
+    pub fn set_weight(&mut self, name: &Name, weight: i64)
+        requires element { IsTrue (is_one_of name.now (element_names self.old.tree)) }
+        requires light { nat_abs weight ≤ most_weight }
+        ensures field { self.new.f ≡ self.old.f }
+        ensures tree { self.new.tree ≡ with_weight name.now weight self.old.tree }
+    {
+        walk::set_weight(&mut self.node, name, weight);
+    }
+
+    /// The place of the node `up` steps above the leaf of a name. None exactly where no leaf has the name or its depth is below `up`.
+    pub fn place(&self, name: &Name, up: u32) -> Option<Place>
+        ensures found { result ≡ place_at_end self.now.tree (way_above name.now up self.now.tree) }
+        ensures within { IfSome result (λ place. IsPlaceOf self.now.tree place) }
+    {
+        match search(&self.node, Place::root(), name, up) {
+            Reached::At(place) => Some(place),
+            Reached::Above(_) => None,
+            Reached::Absent(_) => None,
+        }
+    }
+
+    /// The boundary of the node at a place.
+    pub fn boundary_at(&self, place: &Place) -> u8
+        requires { IsPlaceOf self.now.tree place.now }
+        ensures { result ≡ boundary (node_at self.now.tree (way_of place.now.number self.now.tree)) }
+    {
+        match splice::boundary_at(&self.node, place.number()) {
+            Sought::Here(t) => t,
+            Sought::Beyond(_) => 0,
+        }
+    }
+
+    /// Whether a tree may be put at a place, or why not.
+    pub fn check_replace(
+        &self,
+        alloc: Global,
+        place: &Place,
+        new: &Tree,
+    ) -> Result<(), ReplaceFault>
+        requires { IsPlaceOf self.now.tree place.now }
+        ensures { Answers result (replace_fault self.now.tree (way_of place.now.number self.now.tree) new.now.tree) }
+    {
+        let (old, given) = (self.boundary_at(place), new.boundary());
+        if old != given {
+            return Err(ReplaceFault::Boundary(old, given));
+        }
+        let mut taken = IndexSet::new(alloc);
+        if replace::collect_outside(&self.node, Some(place.number()), &mut taken).is_err() {
+            return Err(ReplaceFault::NoMemory);
+        }
+        if let Some(name) = replace::first_taken(&new.node, &taken) {
+            return Err(ReplaceFault::NameTaken(name));
+        }
+        // A tree has one leaf more than it has joins.
+        let leaves = taken.len() + (walk::nodes(&new.node) as usize + 1) / 2;
+        if leaves > MAX_LEAVES {
+            return Err(ReplaceFault::TooManyLeaves);
+        }
+        if place.depth() + walk::depth(&new.node) > MAX_DEPTH {
+            return Err(ReplaceFault::TooDeep);
+        }
+        Ok(())
+    }
+
+    /// Puts a tree at a place, and gives the tree that stood there. The same place then has the root of the new one.
+    pub fn splice(&mut self, place: &Place, new: Tree) -> Tree
+        requires place { IsPlaceOf self.old.tree place.now }
+        requires field { new.f ≡ self.old.f }
+        requires fits { replace_fault self.old.tree (way_of place.now.number self.old.tree) new.tree ≡ None }
+        ensures field { self.new.f ≡ self.old.f }
+        ensures tree { self.new.tree ≡ with_node self.old.tree (way_of place.now.number self.old.tree) new.tree }
+        ensures old_field { result.f ≡ self.old.f }
+        ensures old_tree { result.tree ≡ node_at self.old.tree (way_of place.now.number self.old.tree) }
+    {
+        match splice::splice(&mut self.node, place.number(), new.node) {
+            Spliced::Done(node) | Spliced::NotHere(node, _) => Tree { node },
+        }
+    }
+}
