@@ -1,0 +1,5 @@
+pub mod SameLaws
+pub mod RepeatLaws
+mod PaddedLaws
+pub mod ScopeLaws
+pub mod SlotLaws

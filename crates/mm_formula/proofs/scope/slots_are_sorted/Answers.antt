@@ -1,0 +1,5 @@
+use Rattle.mm_formula.proofs.SlotLaws.{scoped_sorted}
+use Rattle.mm_formula.proofs.scope.slots_are_sorted.Goals as goal
+
+pub returns : goal.returns
+returns c = scoped_sorted
