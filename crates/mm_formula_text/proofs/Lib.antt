@@ -1,0 +1,6 @@
+pub mod TokenLaws
+pub mod Precedence
+pub mod ReadsAllLaws
+pub mod ReadsOnlyLaws
+pub mod TextLaws
+pub mod CanonicalLaws

@@ -1,0 +1,6 @@
+pub mod Tokens
+pub mod Grammar
+pub mod Canonical
+pub mod Answers
+pub mod Parser
+pub mod ParserValues

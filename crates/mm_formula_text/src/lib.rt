@@ -1,0 +1,14 @@
+//! The text of formulas: reading it and printing it.
+#![tactic(auto)]
+
+mod fault;
+mod parser;
+mod printer;
+mod reader;
+#[cfg(test)]
+mod tests;
+mod token;
+
+pub use fault::ReadFault;
+pub use printer::{canonical_text_derives, print};
+pub use reader::{one_formula, read};
