@@ -1,0 +1,3 @@
+pub mod ReaderLaws
+mod DigitLaws
+mod TakenLaws

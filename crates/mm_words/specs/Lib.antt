@@ -1,0 +1,10 @@
+pub mod Words
+pub mod Demands
+pub mod Arguments
+pub mod Readers
+pub mod DigitTexts
+pub mod HeaderLines
+pub mod OperatorLines
+pub mod OperatorTokens
+pub mod TreeLines
+pub mod Becoming

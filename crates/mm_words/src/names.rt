@@ -1,0 +1,84 @@
+//! The names of the elements that a text gives.
+ghost use Rattle.std.specs.Prelude.{◌≡◌, true};
+ghost use Rattle.std.specs.List.{list_all};
+ghost use Rattle.mm_base.specs.Names.{is_name};
+ghost use Rattle.mm_tree.specs.NamedTree.{is_one_of};
+ghost use Rattle.mm_words.specs.Becoming.{Becomes};
+ghost use Rattle.mm_words.specs.HeaderLines.{elements_line, with_name, with_names};
+
+use crate::arguments::{args, is_text};
+use crate::refusal::{Limit, Refusal, Stop};
+use mm_base::{Name, NameList};
+use mm_lines::{Line, Tokens};
+use std::alloc::Global;
+
+/// The most names of a text.
+const MAX_NAMES: usize = 8192;
+
+fn is_taken(names: &NameList, name: Name) -> bool
+    ensures { result ≡ is_one_of name names.now }
+{
+    for k in 0..names.len() {
+        let other = names.at(k);
+        if is_text(name.bytes(), other.bytes()) {
+            return true;
+        }
+    }
+    false
+}
+
+/// Adds a name, where it is new and there is room.
+fn add_name(alloc: Global, number: u32, names: &mut NameList, name: Name) -> Result<(), Stop>
+    ensures { Becomes result names.new (with_name number names.old name) }
+{
+    if is_taken(names, name) {
+        return Err(Stop::Refused(Refusal::Taken(name)));
+    }
+    if names.len() >= MAX_NAMES {
+        return Err(Stop::Refused(Refusal::Over(Limit::Elements, number)));
+    }
+    names.push(alloc, name)?;
+    Ok(())
+}
+
+fn are_names(tokens: Tokens<'_>) -> bool
+    ensures { result ≡ list_all is_name tokens.entry }
+{
+    let mut tokens = tokens;
+    'tokens: while let Some(token) = tokens.next() {
+        if Name::read(token).is_none() {
+            return false;
+        }
+    }
+    true
+}
+
+fn add_names(
+    alloc: Global,
+    number: u32,
+    names: &mut NameList,
+    tokens: Tokens<'_>,
+) -> Result<(), Stop>
+    requires { list_all is_name tokens ≡ true }
+    ensures { Becomes result names.new (with_names number names.old tokens.entry) }
+{
+    let mut tokens = tokens;
+    'tokens: while let Some(token) = tokens.next() {
+        let Some(name) = Name::read(token) else {
+            return Err(Stop::Refused(Refusal::Syntax(number)));
+        };
+        add_name(alloc, number, names, name)?;
+    }
+    Ok(())
+}
+
+/// Adds the names of an `elements` line: all of them, or none where one is no name, or those before the one that is refused.
+#[tactic(auto, unfolding(crate::specs::HeaderLines::elements_line))]
+pub fn add_elements(alloc: Global, names: &mut NameList, line: &Line) -> Result<(), Stop>
+    ensures { Becomes result names.new (elements_line names.old line.now) }
+{
+    if !are_names(args(line)) {
+        return Err(Stop::Refused(Refusal::Syntax(line.number)));
+    }
+    add_names(alloc, line.number, names, args(line))
+}
