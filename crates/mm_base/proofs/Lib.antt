@@ -1,2 +1,4 @@
 pub mod CopyLaws
 pub mod FrontLaws
+pub mod NameLaws
+pub mod PaddedLaws

@@ -1,5 +1,5 @@
 //! Names of elements, leaves and operators.
-ghost use Rattle.std.specs.Prelude.{◌≡◌, ◌≤◌, ◌<◌, ◌-◌, ◌++◌, [], ◌∷◌, ◌↔◌, List, ℕ, length, IsTrue, OnOk, OnErr, take, drop, replicate, slice_get, Some};
+ghost use Rattle.std.specs.Prelude.{◌≡◌, ◌≤◌, ◌<◌, ◌-◌, ◌++◌, [], ◌∷◌, ◌↔◌, List, ℕ, length, IsTrue, OnOk, OnErr, take, drop, replicate, slice_get, Some, true};
 ghost use Rattle.std.specs.List.{list_all};
 ghost use Rattle.mm_base.specs.Names.{is_name, is_name_byte, name_of};
 
@@ -78,7 +78,8 @@ impl Name {
 
     /// The bytes of the name.
     pub fn bytes(&self) -> &[u8]
-        ensures { result.now ≡ self.now }
+        ensures text { result.now ≡ self.now }
+        ensures form { is_name self.now ≡ true }
     {
         &self.bytes[..self.len]
     }

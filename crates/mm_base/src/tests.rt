@@ -1,9 +1,13 @@
 //! What no clause says: that each call succeeds with memory at hand, and values from outside.
+ghost use Rattle.std.specs.Prelude.{◌≡◌, ◌<◌};
+
 use crate::{
-    MemorySink, MemorySource, Name, NameList, Sink, SinkFault, Source, Status, SureSink,
-    SureSource, Text, write_all,
+    MemorySink, MemorySource, Name, NameList, NoMemory, Sink, SinkFault, Source, Status, StdSink,
+    Steps, SureSink, SureSource, Text, TextFault, write_all,
 };
-use std::alloc::Global;
+use std::alloc::{AllocError, Global};
+use std::marker::Brand;
+use std::sync::ledger::{Blank, Ledger};
 
 #[test]
 fn names_are_read(rt: HostRuntime) {
@@ -72,4 +76,44 @@ fn sinks_take_pieces(rt: HostRuntime) -> Result<(), crate::NoMemory> {
     assert!(rt; write_all(&mut sure, b"abc").is_ok());
     assert!(rt; sure.bytes() == b"abc".as_slice());
     Ok(())
+}
+
+#[test]
+fn standard_output_takes_pieces(rt: HostRuntime) {
+    let mut sink = StdSink::new(rt.stdout());
+    assert!(rt; write_all(&mut sink, b"standard output takes ").is_ok());
+    assert!(rt; write_all(&mut sink, b"pieces\n").is_ok());
+}
+
+/// Two steps of a new counter, whatever its ledger.
+fn two_steps<L: Ledger>(blank: Blank)
+    requires name { blank.name ≡ L.name }
+    requires parts { blank.parts ≡ L.parts }
+    requires some { 0 < blank.parts }
+{
+    let mut steps: Steps<L> = Steps::new(blank);
+    steps.tick();
+    steps.tick();
+}
+
+#[test]
+fn a_counter_needs_no_memory(rt: HostRuntime) {
+    two_steps::<Brand>(Blank::new(1));
+}
+
+/// What a want of memory arisings, through the bound alone.
+fn arising<E, F: From<E>>(cause: E) -> F {
+    F::from(cause)
+}
+
+#[test]
+fn want_of_memory_stays_what_it_is(rt: HostRuntime) {
+    let from_allocator: TextFault = arising(AllocError);
+    assert!(rt; matches!(from_allocator, TextFault::NoMemory));
+    let from_call: TextFault = arising(NoMemory);
+    assert!(rt; matches!(from_call, TextFault::NoMemory));
+    let of_sink: SinkFault = arising(AllocError);
+    assert!(rt; of_sink == SinkFault::NoMemory);
+    let of_call: NoMemory = arising(AllocError);
+    assert!(rt; of_call == NoMemory);
 }

@@ -3,6 +3,8 @@ use Rattle.std.proofs.Common.{◌≡◌, ℕ, Bool, true, false, ◌||◌, inl, 
 use Rattle.std.specs.Str.{bytes_eq}
 use Rattle.std.proofs.lemmas.Slice.Eq.{bytes_eq-Decides}
 use Rattle.std.proofs.lemmas.Bool.{both_ways, cases_Bool}
+use Rattle.mm_base.proofs.NameLaws.{padded_eq}
+use Rattle.mm_formula.specs.contracts.var.VarPartialEq.TheImpl.{eq-value}
 
 pub same : (v w : List ℕ) → bytes_eq v w ≡ true → v ≡ w
 same v w h = (bytes_eq-Decides v w).0 h
@@ -19,3 +21,7 @@ same_swap v w h = elim (cases_Bool (bytes_eq w v)) [ inl t ↦ absurd (apart v w
 pub neither : (a b : Bool) → a || b ≡ false → (a ≡ false) × (b ≡ false)
 neither false b h = (refl, h)
 neither true b h = (h, absurd (let e : true ≡ false = h in cc))
+
+-- variables are equal, field by field, exactly where their bytes are
+pub var_eq : (v w : List ℕ) → (eq-value).it v w ≡ bytes_eq v w
+var_eq v w = padded_eq v w

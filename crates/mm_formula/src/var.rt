@@ -16,7 +16,7 @@ const MAX_VAR: usize = 16;
 ///
 /// It stands for a set of elements where it begins with an upper-case letter, and for an element where it
 /// begins with a lower-case letter.
-#[derive(Clone, Copy, Debug, PartialEq, Eq)]
+#[derive(Clone, Copy, Debug, PartialEq, Eq, Hash)]
 pub struct Var {
     bytes: [u8; 16],
     len: usize,

@@ -4,3 +4,4 @@ pub mod ReadsAllLaws
 pub mod ReadsOnlyLaws
 pub mod TextLaws
 pub mod CanonicalLaws
+pub mod PartsLaws

@@ -4,3 +4,4 @@ pub mod Canonical
 pub mod Answers
 pub mod Parser
 pub mod ParserValues
+pub mod PartsView

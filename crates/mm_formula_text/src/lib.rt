@@ -5,6 +5,7 @@ mod fault;
 mod parser;
 mod printer;
 mod reader;
+mod term;
 #[cfg(test)]
 mod tests;
 mod token;

@@ -4,13 +4,14 @@
 //! calls. Where a formula is complete, the next connective or the end closes each frame that binds tighter.
 ghost use Rattle.std.specs.Prelude.{◌≡◌, [], ◌∷◌, true, false, MatchOption, IfOk, OnOk, Some, None};
 ghost use Rattle.mm_formula.specs.Syntax.{syntax_of};
-ghost use Rattle.mm_formula_text.specs.Grammar.{nothing, mention, mention_all};
+ghost use Rattle.mm_formula_text.specs.Grammar.{nothing};
 ghost use Rattle.mm_formula_text.specs.Parser.{level, awaits, around, hole, close, atom, operand, bound, first, second, independent, term_begins, ends_term, parts, next_part, leave, complete, step, finish, run, at, start};
 ghost use Rattle.mm_formula_text.specs.Parser as parser;
 ghost use Rattle.mm_formula_text.specs.ParserValues.{frame_of, mode_of, frames_of, Goes, Gives};
 ghost use Rattle.mm_formula_text.specs.Tokens.{tokens};
 
 use crate::fault::ReadFault;
+use crate::term::Parts;
 use crate::token::{Quantifier, Relation, Token, Tokens};
 use mm_base::NoMemory;
 use mm_formula::{Connective, Formula, Term, Var, VarList};
@@ -47,9 +48,9 @@ pub enum Mode {
     /// Behind `0`.
     Nothing,
     /// Behind a part of a term.
-    Parts(Term),
+    Parts(Parts),
     /// Behind the bar of a term.
-    NextPart(Term),
+    NextPart(Parts),
     /// Behind a formula.
     Complete(Formula),
 }
@@ -175,36 +176,6 @@ fn atom(v: Var, relation: Relation, w: Var) -> Option<Formula>
     }
 }
 
-/// The term with a variable joined to it.
-fn mention(alloc: Global, term: Term, v: Var) -> Result<Term, NoMemory>
-    ensures { IfOk result (λ t. t ≡ mention term v) }
-{
-    let mut term = term;
-    if !term.vars.has(&v) {
-        term.vars.push(alloc, v)?;
-    }
-    Ok(term)
-}
-
-/// A term of one variable.
-fn one_variable(alloc: Global, v: Var) -> Result<Term, NoMemory>
-    ensures { IfOk result (λ t. t ≡ record { whole = false; vars = v ∷ [] }) }
-{
-    let mut vars = VarList::new(alloc);
-    vars.push(alloc, v)?;
-    Ok(Term { whole: false, vars })
-}
-
-/// The term of all elements.
-fn all_elements(alloc: Global) -> Term
-    ensures { result ≡ record { whole = true; vars = [] } }
-{
-    Term {
-        whole: true,
-        vars: VarList::new(alloc),
-    }
-}
-
 /// The term of no elements.
 fn no_elements(alloc: Global) -> Term
     ensures { result ≡ nothing }
@@ -213,15 +184,6 @@ fn no_elements(alloc: Global) -> Term
         whole: false,
         vars: VarList::new(alloc),
     }
-}
-
-/// The term with all elements joined to it.
-fn mention_all(term: Term) -> Term
-    ensures { result ≡ mention_all term }
-{
-    let mut term = term;
-    term.whole = true;
-    term
 }
 
 /// Puts a formula and the connective behind it on the stack.
@@ -303,8 +265,8 @@ fn term_begins(alloc: Global, token: Token) -> Result<Mode, ReadFault>
 {
     match token {
         Token::Zero => Ok(Mode::Nothing),
-        Token::Variable(v) => Ok(Mode::Parts(one_variable(alloc, v)?)),
-        Token::Star => Ok(Mode::Parts(all_elements(alloc))),
+        Token::Variable(v) => Ok(Mode::Parts(Parts::variable(alloc, v)?)),
+        Token::Star => Ok(Mode::Parts(Parts::all_elements(alloc))),
         _ => Err(ReadFault::Syntax),
     }
 }
@@ -318,22 +280,22 @@ fn ends_term(token: Token, term: Term) -> Result<Mode, ReadFault>
     }
 }
 
-fn parts(token: Token, term: Term) -> Result<Mode, ReadFault>
-    ensures { (frames : _) → Goes result frames (parts frames term token) }
+fn parts(token: Token, so_far: Parts) -> Result<Mode, ReadFault>
+    ensures { (frames : _) → Goes result frames (parts frames so_far token) }
 {
     match token {
-        Token::Bar => Ok(Mode::NextPart(term)),
-        Token::Close => Ok(Mode::Complete(Formula::Ind(term))),
+        Token::Bar => Ok(Mode::NextPart(so_far)),
+        Token::Close => Ok(Mode::Complete(Formula::Ind(so_far.term()))),
         _ => Err(ReadFault::Syntax),
     }
 }
 
-fn next_part(alloc: Global, token: Token, term: Term) -> Result<Mode, ReadFault>
-    ensures { (frames : _) → Goes result frames (next_part frames term token) }
+fn next_part(alloc: Global, token: Token, so_far: Parts) -> Result<Mode, ReadFault>
+    ensures { (frames : _) → Goes result frames (next_part frames so_far token) }
 {
     match token {
-        Token::Variable(v) => Ok(Mode::Parts(mention(alloc, term, v)?)),
-        Token::Star => Ok(Mode::Parts(mention_all(term))),
+        Token::Variable(v) => Ok(Mode::Parts(so_far.mention(alloc, v)?)),
+        Token::Star => Ok(Mode::Parts(so_far.mention_all())),
         _ => Err(ReadFault::Syntax),
     }
 }
@@ -383,8 +345,8 @@ fn step(alloc: Global, stack: &mut Stack, mode: Mode, token: Token) -> Result<Mo
         Mode::Independent => independent(token),
         Mode::TermBegins => term_begins(alloc, token),
         Mode::Nothing => ends_term(token, no_elements(alloc)),
-        Mode::Parts(term) => parts(token, term),
-        Mode::NextPart(term) => next_part(alloc, token, term),
+        Mode::Parts(so_far) => parts(token, so_far),
+        Mode::NextPart(so_far) => next_part(alloc, token, so_far),
         Mode::Complete(formula) => complete(alloc, stack, token, formula),
     }
 }

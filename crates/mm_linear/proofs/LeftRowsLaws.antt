@@ -21,7 +21,7 @@ use Rattle.mm_linear.proofs.PivotLaws.{pivots_are_leads}
 
 -- ---- turning vectors round
 
-reverse-cons : {X : Type 0} (x : X) (xs : List X) → reverse (x ∷ xs) ≡ reverse xs ++ (x ∷ [])
+pub reverse-cons : {X : Type 0} (x : X) (xs : List X) → reverse (x ∷ xs) ≡ reverse xs ++ (x ∷ [])
 reverse-cons x xs = reverse-append (x ∷ []) xs
 
 pub reverse-zeros : (n : ℕ) → reverse (zeros n) ≡ zeros n
@@ -56,13 +56,13 @@ digits-reverse f (x ∷ u) h =
     (All-append (λ d. d < order f) (reverse u) (x ∷ []) (digits-reverse f u (λ k d l. h (suc k) d (omega arith)))
     (All-cons (λ d. d < order f) x [] (h 0 0 (omega arith)) (All-nil (λ d. d < order f))))
 
-IsVector-reverse : (f : Field) (n : ℕ) (u : List ℕ) → IsVector f n u → IsVector f n (reverse u)
+pub IsVector-reverse : (f : Field) (n : ℕ) (u : List ℕ) → IsVector f n u → IsVector f n (reverse u)
 IsVector-reverse f n u h = record { len = length-reverse u ∙ h.len; digits = digits-reverse f u h.digits }
 
 pub AreVectors-turned : (f : Field) (n : ℕ) (rows : List (List ℕ)) → AreVectors f n rows → AreVectors f n (map reverse rows)
 AreVectors-turned f n rows h = AreVectors-map f n n reverse (IsVector-reverse f n) rows h
 
-turned_twice : (rows : List (List ℕ)) → map reverse (map reverse rows) ≡ rows
+pub turned_twice : (rows : List (List ℕ)) → map reverse (map reverse rows) ≡ rows
 turned_twice [] = refl
 turned_twice (v ∷ vs) = ap₂ (λ x y. x ∷ y) (reverse-reverse v) (turned_twice vs)
 
@@ -80,7 +80,7 @@ combination-turned f n (c ∷ cs) (v ∷ vs) h =
     length_multiple f c [] = refl
     length_multiple f c (x ∷ v) = ap suc (length_multiple f c v)
 
-InSpan-turned : (f : Field) (n : ℕ) (rows : List (List ℕ)) (v : List ℕ) → AreVectors f n rows → InSpan f n rows v →
+pub InSpan-turned : (f : Field) (n : ℕ) (rows : List (List ℕ)) (v : List ℕ) → AreVectors f n rows → InSpan f n rows v →
     InSpan f n (map reverse rows) (reverse v)
 InSpan-turned f n rows v h p = record {
   coefficients = p.coefficients;

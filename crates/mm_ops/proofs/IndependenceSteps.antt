@@ -1,8 +1,8 @@
 -- Independence of rows, one row before the others.
-use Rattle.std.proofs.Common.{ℕ, zero, suc, ◌≡◌, Bool, true, false, List, [], ◌∷◌, drop, get_or, refl, sym, subst, ◌∙◌, ◌↔◌}
+use Rattle.std.proofs.Common.{ℕ, zero, suc, ◌≡◌, Bool, true, false, List, [], ◌∷◌, drop, get_or, refl, sym, subst, ◌↔◌}
 use Rattle.std.proofs.lemmas.List.Elements.{All-cons, All-nil}
 use Rattle.mm_field.specs.declared.Field.{Field}
-use Rattle.mm_field.specs.Vectors.{IsVector, AreVectors, InSpan, IsWithin, AreIndependent}
+use Rattle.mm_field.specs.Vectors.{IsVector, AreVectors, InSpan, IsWithin}
 use Rattle.mm_field.proofs.CombinationLaws.{first_row, other_rows, InSpan-within, InSpan-first, InSpan-one_more, IsWithin-within}
 use Rattle.mm_linear.specs.Decide.{is_independent}
 use Rattle.mm_linear.proofs.DecideLaws.{is_independent_decides}

@@ -1,5 +1,5 @@
 -- Numbers and matrices without a fault are a valid operator, and a valid operator has no fault.
-use Rattle.std.proofs.Common.{ℕ, ◌≡◌, ◌≤◌, ◌<◌, ◌+◌, ◌==◌, ◌&&◌, nat_le, not, if◌then◌else◌, Bool, true, false, List, [], ◌∷◌, length, map, get_or, Option, Some, None, refl, sym, ap, ap₂, ◌↔◌, ◌∙◌, subst, arith}
+use Rattle.std.proofs.Common.{ℕ, ◌≡◌, ◌<◌, ◌+◌, ◌==◌, ◌&&◌, nat_le, not, if◌then◌else◌, Bool, true, false, List, [], ◌∷◌, length, map, Option, Some, None, refl, sym, ap, ap₂, ◌↔◌, ◌∙◌, subst, arith}
 use Rattle.std.specs.List.{All, list_all, range_with_len}
 use Rattle.std.proofs.lemmas.Bool.{leb-true, le-leb, and_parts, eqb-true, eq-eqb}
 use Rattle.std.proofs.lemmas.List.{length-map, get_or-map}
@@ -13,8 +13,7 @@ use Rattle.mm_linear.proofs.DecideLaws.{is_independent_decides}
 use Rattle.mm_linear.proofs.BasisLaws.{IsVector-unit}
 use Rattle.mm_logic.specs.Operator.{Op, IsBoundary, IsValidOp, row_length}
 use Rattle.mm_ops.specs.OpFaults.{is_within_bounds, has_shape, has_shapes, first_dependent, dependence, fault_of}
-use Rattle.mm_ops.specs.declared.op.OpFault.{OpFault}
-use Rattle.mm_ops.specs.declared.op.OpFault.TheVariants.{Bound, Shape, Dependent}
+use Rattle.mm_ops.specs.declared.op.OpFault.TheVariants.{Bound, Shape}
 
 shaped_rows : (f : Field) (r : ℕ) (g : List (List ℕ)) → All (λ v. AreDigits f v) g → list_all (λ v. length v == r) g ≡ true → AreVectors f r g
 shaped_rows f r [] h e = All-nil (λ v. IsVector f r v)

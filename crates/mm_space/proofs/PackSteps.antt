@@ -9,13 +9,13 @@ use Rattle.mm_field.specs.declared.Field.TheVariants.{Two, Three, Four, Five}
 use Rattle.mm_linear.specs.Echelons.{entry, IsEchelon}
 use Rattle.mm_linear.specs.LeftRows.{turned_rows, reduced_basis}
 use Rattle.mm_linear.proofs.HeadLaws.{IsEchelon-head}
-use Rattle.mm_linear.proofs.LeftRowsLaws.{reduced_basis_is}
+use Rattle.mm_linear.proofs.LeftRowsLaws.{AreVectors-turned, reduced_basis_is}
 use Rattle.mm_linear.proofs.LeftUnique.{basis_of_reduced}
 use Rattle.mm_space.specs.SpaceValue.{corner}
 use Rattle.mm_space.specs.KeyValue.{KeyValue, IsKeyOf, number_onto, joined_rows, packed, unpacked, code_of}
 use Rattle.mm_space.specs.KeyView.{IsReduced, IsPacked}
 use Rattle.mm_space.proofs.PackLaws.{number_onto-append, Fits, unpacked-packed}
-use Rattle.mm_space.proofs.TurnedLaws.{AreVectors-turned, corner_row, corner_entry, turned_rows-taken, turned_rows-left_out, turned_rows-few, reduced_basis-turned, reduced_basis-twice}
+use Rattle.mm_space.proofs.TurnedLaws.{corner_row, corner_entry, turned_rows-taken, turned_rows-left_out, turned_rows-few, reduced_basis-turned, reduced_basis-twice}
 
 pub record IsPacking (t : ℕ) (rows : List (List ℕ)) (j packed rank : ℕ) : Type 0 where
   pub packed_is : packed ≡ number_onto 0 (joined_rows (turned_rows (corner t rows) j))

@@ -24,7 +24,7 @@ use Rattle.mm_linear.proofs.BasisLaws.{combination_cut, IsVector-unit}
 use Rattle.mm_linear.proofs.HeadLaws.{IsEchelon-head, InSpan-head}
 use Rattle.mm_linear.proofs.InsertLaws.{IsVector-residue, no_residue, in_span_with_no_residue}
 use Rattle.mm_linear.proofs.MeetTest.{is_in_span_decides}
-use Rattle.mm_linear.proofs.LeftRowsLaws.{reduced_basis_is}
+use Rattle.mm_linear.proofs.LeftRowsLaws.{reverse-cons, IsVector-reverse, AreVectors-turned, reduced_basis_is}
 use Rattle.mm_linear.proofs.SpaceLaws.{padded_past, IsVector-padded}
 use Rattle.mm_linear.proofs.SubspaceLaws.{pad}
 use Rattle.mm_linear.proofs.SubspaceTests.{subspace-of_rows}
@@ -35,7 +35,7 @@ use Rattle.mm_space.specs.Preimages.{IsPreimage, tagged_row, tagged_rows}
 use Rattle.mm_space.proofs.RowLaws.{residue_ends}
 use Rattle.mm_space.proofs.KeptLaws.{padded_is, ended_is_padded, held_span, corner_each}
 use Rattle.mm_space.proofs.Gathering.{wide_rows, wide_image_is}
-use Rattle.mm_space.proofs.TurnedLaws.{reverse-cons, IsVector-reverse, AreVectors-turned, InSpan-turned_back, reduced_basis-twice}
+use Rattle.mm_space.proofs.TurnedLaws.{InSpan-turned_back, reduced_basis-twice}
 
 -- ---- tags
 

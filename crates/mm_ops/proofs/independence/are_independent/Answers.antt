@@ -1,9 +1,9 @@
-use Rattle.std.proofs.Common.{ℕ, zero, suc, ◌≡◌, ◌<◌, ◌≤◌, ◌+◌, ◌-◌, Bool, true, false, List, [], ◌∷◌, length, drop, get_or, sym, ap, ◌∙◌, subst, arith, rules}
+use Rattle.std.proofs.Common.{ℕ, suc, ◌≡◌, ◌<◌, ◌≤◌, ◌-◌, Bool, true, false, List, [], ◌∷◌, length, drop, get_or, sym, ap, ◌∙◌, subst, arith, rules}
 use Rattle.std.proofs.Math.Seq.{drop-cons}
 use Rattle.std.proofs.lemmas.List.{drop_all}
 use Rattle.std.proofs.lemmas.List.Elements.{All-drop, All-cons}
 use Rattle.std.specs.Bool.{IsTrue}
-use Rattle.mm_field.specs.Vectors.{IsVector, AreVectors, InSpan}
+use Rattle.mm_field.specs.Vectors.{IsVector, InSpan}
 use Rattle.mm_linear.specs.Decide.{is_independent}
 use Rattle.mm_space.specs.SpaceValue.{IsIn, IsSpanOf}
 use Rattle.mm_ops.proofs.IndependenceSteps.{one_more, one_too_many, dependent_tail, no_rows_independent, in_span_of, span_with}

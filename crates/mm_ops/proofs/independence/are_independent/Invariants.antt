@@ -1,4 +1,4 @@
-use Rattle.std.proofs.Common.{◌≡◌, ◌-◌, true, length, drop}
+use Rattle.std.proofs.Common.{◌≡◌, true, drop}
 use Rattle.mm_linear.specs.Decide.{is_independent}
 use Rattle.mm_space.specs.SpaceValue.{IsSpanOf}
 use Rattle.mm_ops.proofs.independence.are_independent.Given as goal

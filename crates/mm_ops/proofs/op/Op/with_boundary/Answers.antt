@@ -1,6 +1,6 @@
 use Rattle.std.proofs.Common.{sym, ◌∙◌}
 use Rattle.mm_ops.specs.OpValue.{operator}
-use Rattle.mm_ops.proofs.ValidOps.{shaped, valid_op}
+use Rattle.mm_ops.proofs.ValidOps.{valid_op}
 use Rattle.mm_ops.proofs.op.Op.with_boundary.Goals as goal
 
 pub invariant_of-result : goal.invariant_of-result

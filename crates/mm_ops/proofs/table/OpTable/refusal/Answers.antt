@@ -1,6 +1,6 @@
-use Rattle.std.proofs.Common.{ℕ, ◌≡◌, ◌≤◌, ◌<◌, List, length, sym, ap, ◌∙◌, arith, hash_map_len}
+use Rattle.std.proofs.Common.{length, sym, ap, ◌∙◌, arith}
 use Rattle.std.specs.Option.{is_some}
-use Rattle.mm_ops.specs.Tables.{Named, op_named}
+use Rattle.mm_ops.specs.Tables.{Named}
 use Rattle.mm_ops.proofs.TableLaws.{taken_refused, full_refused, none_refused}
 use Rattle.mm_ops.proofs.table.OpTable.refusal.Goals as goal
 
