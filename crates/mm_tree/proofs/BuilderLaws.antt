@@ -6,31 +6,31 @@ use Rattle.std.specs.Str.{bytes_eq}
 use Rattle.std.proofs.lemmas.List.Elements.{All-append, All-cons, All-nil, All-head, All-tail}
 use Rattle.indexmap.specs.IndexSet.{insert_key}
 use Rattle.mm_base.specs.contracts.name.NamePartialEq.TheImpl.{eq-value}
-use Rattle.mm_ops.proofs.TableLaws.{name_eq}
+use Rattle.mm_base.proofs.NameLaws.{name_eq}
+use Rattle.mm_base.specs.Names.{is_name}
 use Rattle.mm_field.specs.declared.Field.{Field}
 use Rattle.mm_logic.specs.Operator.{IsValidOp}
-use Rattle.mm_logic.specs.Tree as shapes
 use Rattle.mm_ops.specs.OpValue.{OpValue}
 use Rattle.mm_ops.specs.Tables.{Named, op_named}
-use Rattle.mm_tree.specs.NamedTree.Tree.{Elem, Void, Join}
+use Rattle.mm_tree.specs.NamedTree.Tree.{Join}
 use Rattle.mm_tree.specs.declared.node.Node.TheViews as views
 use Rattle.std.proofs.lemmas.Bool.{eqb-true, leb-false}
 use Rattle.mm_tree.specs.Building.{AreOver, names_in, leaf_fault, pair_fault, join_fault, joined}
 use Rattle.mm_tree.specs.BuilderView.{IsGrown, IsGoodLeaf, tree_of, trees_of}
-use Rattle.mm_tree.specs.NamedTree.{Tree, shape, boundary, leaf_names, weights, depth, is_one_of}
+use Rattle.mm_tree.specs.NamedTree.{Tree, shape, boundary, node_names, leaf_names, weights, depth, is_one_of}
 use Rattle.mm_field.specs.Vectors.{AreDigits}
 use Rattle.mm_tree.specs.Nodes.{named, named_leaf, IsOver, field_of}
-use Rattle.mm_tree.specs.ValidTree.{most_leaves, most_depth, most_weight}
+use Rattle.mm_tree.specs.ValidTree.{AreNames, most_leaves, most_depth, most_weight}
 use Rattle.mm_tree.specs.declared.builder.BuildFault.TheVariants.{NameTaken, TooManyLeaves, Boundary, TooDeep}
 use Rattle.mm_tree.specs.declared.builder.Grown.{Grown}
 use Rattle.mm_tree.specs.declared.node.Leaf.{Leaf}
 use Rattle.mm_tree.specs.declared.node.Node as nodes_of
 use Rattle.mm_logic.specs.Tree.{IsValid}
 use Rattle.mm_tree.proofs.NameLaws.{distinct_append}
-use Rattle.mm_tree.proofs.Walks.{leaf_name, leaf_depth}
+use Rattle.mm_tree.proofs.Walks.{leaf_name, leaf_node_name, leaf_depth}
 use Rattle.mm_tree.proofs.NameLaws.{same_name}
 use Rattle.mm_tree.specs.TreeView.{Stands}
-use Rattle.mm_tree.proofs.TreeLaws.{stands}
+use Rattle.mm_tree.proofs.TreeLaws.{shape_boundary, join_names, stands}
 
 pub any_name : (name : List ℕ) (names : List (List ℕ)) → list_any ((eq-value).it name) names ≡ is_one_of name names
 any_name name [] = refl
@@ -69,11 +69,15 @@ free_parts name trees e = go (is_one_of name (names_in trees)) (nat_le most_leav
 
 -- ---- one more leaf
 
-pub leaf_grown : (f : Field) (l : Leaf) (g : Grown) → g.node.value ≡ nodes_of.Leaf l → g.depth ≡ 0 → IsGoodLeaf f l → IsGrown f g
+one_name : (name : List ℕ) → is_name name ≡ true → AreNames (name ∷ [])
+one_name name formed = All-cons (λ n. is_name n ≡ true) name [] formed (All-nil (λ n. is_name n ≡ true))
+
+pub leaf_grown : (f : Field) (l : Leaf) (g : Grown) → g.node.value ≡ nodes_of.Leaf l → g.depth ≡ 0 → IsGoodLeaf f l → is_name l.name ≡ true → IsGrown f g
 unfolding named
-leaf_grown f l g e d good = record {
+leaf_grown f l g e d good formed = record {
   over = subst (λ (x : nodes_of.Node). IsOver f x) (sym e) good.over;
   valid_shape = subst (λ (x : nodes_of.Node). IsValid f (shape (named x))) (sym e) good.valid_shape;
+  formed = subst (λ (ns : List (List ℕ)). AreNames ns) (sym (ap (λ (x : nodes_of.Node). node_names (named x)) e ∙ leaf_node_name l)) (one_name l.name formed);
   deep = d ∙ sym (ap (λ (x : nodes_of.Node). depth (named x)) e ∙ leaf_depth l);
   shallow = omega arith;
   light = subst (λ (x : nodes_of.Node). All (λ w. nat_abs w ≤ most_weight) (weights (named x))) (sym e) good.light;
@@ -153,6 +157,7 @@ pub grown_stands : (f : Field) (g : Grown) (names : List (List ℕ)) (node : nod
 grown_stands f g names node e grown n d l =
     subst (λ (x : nodes_of.Node). Stands (field_of x) x) (sym e) (stands f g.node.value grown.over (record {
       valid_shape = grown.valid_shape;
+      formed = grown.formed;
       different = subst (λ (ns : List (List ℕ)). IsDistinct bytes_eq ns) n d;
       few = subst (λ (ns : List (List ℕ)). length ns ≤ most_leaves) n l;
       shallow = (let a = grown.deep in let b = grown.shallow in omega arith);
@@ -190,16 +195,10 @@ pair_parts op left right e =
 abbrev join_node : List ℕ → OpValue → Box nodes_of.Node Global → Box nodes_of.Node Global → nodes_of.Node
 join_node name op l r = views.Join name op l r
 
-shape_is : (tree : Tree) → shapes.boundary (shape tree) ≡ boundary tree
-unfolding shape boundary
-shape_is (Elem n vec weight) = refl
-shape_is (Void n t) = refl
-shape_is (Join n op left right) = refl
-
-pub join_grown : (f : Field) (name : List ℕ) (op : OpValue) (l r g : Grown) → op.f ≡ f → IsValidOp op.f op.op → IsGrown f l → IsGrown f r →
+pub join_grown : (f : Field) (name : List ℕ) (op : OpValue) (l r g : Grown) → is_name name ≡ true → op.f ≡ f → IsValidOp op.f op.op → IsGrown f l → IsGrown f r →
     pair_fault op (tree_of l) (tree_of r) ≡ None → g.node.value ≡ join_node name op l.node r.node → g.depth ≡ max l.depth r.depth + 1 → IsGrown f g
 unfolding IsOver shape weights depth named
-join_grown f name op l r g e valid gl gr none node deep =
+join_grown f name op l r g formed e valid gl gr none node deep =
     let p = pair_parts op (tree_of l) (tree_of r) none in
     let d : g.depth ≡ max (depth (tree_of l)) (depth (tree_of r)) + 1 = deep ∙ ap₂ (λ (a b : ℕ). max a b + 1) gl.deep gr.deep in
     let low = leb-false most_depth (max (depth (tree_of l)) (depth (tree_of r))) p.2 in
@@ -207,11 +206,13 @@ join_grown f name op l r g e valid gl gr none node deep =
       over = subst (λ (x : nodes_of.Node). IsOver f x) (sym node) (e, gl.over, gr.over);
       valid_shape = subst (λ (x : nodes_of.Node). IsValid f (shape (named x))) (sym node) (
         subst (λ (x : Field). IsValidOp x op.op) e valid,
-        shape_is (tree_of l) ∙ p.0,
-        shape_is (tree_of r) ∙ p.1,
+        shape_boundary (tree_of l) ∙ p.0,
+        shape_boundary (tree_of r) ∙ p.1,
         gl.valid_shape,
         gr.valid_shape,
       );
+      formed = subst (λ (x : nodes_of.Node). AreNames (node_names (named x))) (sym node)
+          (join_names name op.op (tree_of l) (tree_of r) formed gl.formed gr.formed);
       deep = d ∙ sym (ap (λ (x : nodes_of.Node). depth (named x)) node);
       shallow = omega arith;
       light = subst (λ (x : nodes_of.Node). All (λ w. nat_abs w ≤ most_weight) (weights (named x))) (sym node)
@@ -253,12 +254,12 @@ grown_last f (x ∷ rest) g h =
     (p.0, All-cons (λ x. IsGrown f x) x rest (All-head (λ x. IsGrown f x) x (rest ++ g ∷ []) h) p.1)
 
 pub all_after : (f : Field) (items rest front now : List Grown) (name : List ℕ) (op : OpValue) (l r g : Grown) → items ≡ rest ++ r ∷ [] → rest ≡ front ++ l ∷ [] →
-    now ≡ front ++ g ∷ [] → op.f ≡ f → IsValidOp op.f op.op → join_fault op (trees_of items) ≡ None → g.node.value ≡ join_node name op l.node r.node →
+    now ≡ front ++ g ∷ [] → is_name name ≡ true → op.f ≡ f → IsValidOp op.f op.op → join_fault op (trees_of items) ≡ None → g.node.value ≡ join_node name op l.node r.node →
     g.depth ≡ max l.depth r.depth + 1 → All (λ x. IsGrown f x) items → All (λ x. IsGrown f x) now
-all_after f items rest front now name op l r g e p q same valid none node deep h =
+all_after f items rest front now name op l r g e p q formed same valid none node deep h =
     let a = grown_last f rest r (subst (λ (xs : List Grown). All (λ x. IsGrown f x) xs) e h) in
     let b = grown_last f front l (subst (λ (xs : List Grown). All (λ x. IsGrown f x) xs) p a.1) in
     let pair = sym (ap (join_fault op) (two_trees items rest front l r e p)) ∙ none in
     subst (λ (xs : List Grown). All (λ x. IsGrown f x) xs) (sym q)
     (All-append (λ x. IsGrown f x) front (g ∷ []) b.1
-    (All-cons (λ x. IsGrown f x) g [] (join_grown f name op l r g same valid b.0 a.0 pair node deep) (All-nil (λ x. IsGrown f x))))
+    (All-cons (λ x. IsGrown f x) g [] (join_grown f name op l r g formed same valid b.0 a.0 pair node deep) (All-nil (λ x. IsGrown f x))))

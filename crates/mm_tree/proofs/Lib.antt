@@ -1,4 +1,5 @@
 pub mod Walks
+pub mod TextLaws
 pub mod NameLaws
 pub mod WayLaws
 pub mod StepLaws

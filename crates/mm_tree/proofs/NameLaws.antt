@@ -20,11 +20,11 @@ or_parts : (a b : Bool) → (a || b) ≡ false → (a ≡ false) × (b ≡ false
 or_parts true b e = cc
 or_parts false b e = (refl, e)
 
-or_right : (a b : Bool) → b ≡ true → (a || b) ≡ true
+pub or_right : (a b : Bool) → b ≡ true → (a || b) ≡ true
 or_right true b e = refl
 or_right false b e = e
 
-or_left : (a b : Bool) → a ≡ true → (a || b) ≡ true
+pub or_left : (a b : Bool) → a ≡ true → (a || b) ≡ true
 or_left true b e = refl
 or_left false b e = cc
 

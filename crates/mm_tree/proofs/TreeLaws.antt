@@ -2,6 +2,7 @@
 use Rattle.std.proofs.Common.{ℕ, ℤ, ◌≡◌, ◌≤◌, ◌+◌, ◌*◌, ◌==◌, ◌||◌, ◌++◌, not, nat_le, nat_abs, max, Bool, true, false, List, [], ◌∷◌, length, refl, sym, ap, ap₂, ◌∙◌, subst, Option, Some, None, if◌then◌else◌, arith}
 use Rattle.std.specs.List.{All, IsDistinct}
 use Rattle.std.specs.Str.{bytes_eq}
+use Rattle.mm_base.specs.Names.{is_name}
 use Rattle.std.proofs.lemmas.Bool.{leb-true, eqb-true}
 use Rattle.std.proofs.lemmas.List.{length-append}
 use Rattle.std.proofs.lemmas.List.Elements.{All-append, All-cons, All-nil, All-head, All-tail}
@@ -9,10 +10,10 @@ use Rattle.mm_field.specs.declared.Field.{Field}
 use Rattle.mm_logic.specs.Operator.{Op}
 use Rattle.mm_logic.specs.Tree as shapes
 use Rattle.mm_logic.specs.Tree.{IsValid}
-use Rattle.mm_tree.specs.NamedTree.{Tree, shape, boundary, leaf_names, element_names, weights, depth, nodes, is_one_of}
+use Rattle.mm_tree.specs.NamedTree.{Tree, shape, boundary, node_names, leaf_names, element_names, weights, depth, nodes, is_one_of}
 use Rattle.mm_tree.specs.NamedTree.Tree.{Elem, Void, Join}
 use Rattle.mm_tree.specs.Replacing.{first_taken, name_fault, replace_fault}
-use Rattle.mm_tree.specs.ValidTree.{IsValidTree, most_leaves, most_depth, most_weight}
+use Rattle.mm_tree.specs.ValidTree.{IsValidTree, AreNames, most_leaves, most_depth, most_weight}
 use Rattle.mm_tree.specs.Ways.{Way, node_at, with_node, names_outside, with_weight, with_first_weight}
 use Rattle.mm_tree.specs.declared.replace.ReplaceFault.TheVariants.{Boundary, TooManyLeaves, TooDeep}
 use Rattle.mm_tree.specs.Nodes.{named, field_of, IsOver}
@@ -114,6 +115,13 @@ weight_names name weight (Void n t) = refl
 weight_names name weight (Join n op left right) =
     ap₂ (λ (a b : List (List ℕ)). a ++ b) (weight_names name weight left) (weight_names name weight right)
 
+weight_node_names : (name : List ℕ) (weight : ℤ) (tree : Tree) → node_names (with_weight name weight tree) ≡ node_names tree
+unfolding node_names with_weight
+weight_node_names name weight (Elem n vec old) = same_leaf (bytes_eq name n) n vec weight old node_names refl
+weight_node_names name weight (Void n t) = refl
+weight_node_names name weight (Join n op left right) =
+    ap₂ (λ (a b : List (List ℕ)). n ∷ (a ++ b)) (weight_node_names name weight left) (weight_node_names name weight right)
+
 weight_depth : (name : List ℕ) (weight : ℤ) (tree : Tree) → depth (with_weight name weight tree) ≡ depth tree
 unfolding depth with_weight
 weight_depth name weight (Elem n vec old) = same_leaf (bytes_eq name n) n vec weight old depth refl
@@ -124,15 +132,39 @@ weight_depth name weight (Join n op left right) =
 abbrev Light : List ℤ → Type 0
 Light ws = All (λ w. nat_abs w ≤ most_weight) ws
 
+all_left : {A : Type 0} (P : A → Type 0) (xs ys : List A) → All P (xs ++ ys) → All P xs
+all_left P [] ys h = All-nil P
+all_left P (x ∷ xs) ys h = All-cons P x xs (All-head P x (xs ++ ys) h) (all_left P xs ys (All-tail P x (xs ++ ys) h))
+
+all_right : {A : Type 0} (P : A → Type 0) (xs ys : List A) → All P (xs ++ ys) → All P ys
+all_right P [] ys h = h
+all_right P (x ∷ xs) ys h = all_right P xs ys (All-tail P x (xs ++ ys) h)
+
 light_left : (xs ys : List ℤ) → Light (xs ++ ys) → Light xs
-light_left [] ys h = All-nil (λ w. nat_abs w ≤ most_weight)
-light_left (x ∷ xs) ys h =
-    All-cons (λ w. nat_abs w ≤ most_weight) x xs (All-head (λ w. nat_abs w ≤ most_weight) x (xs ++ ys) h)
-    (light_left xs ys (All-tail (λ w. nat_abs w ≤ most_weight) x (xs ++ ys) h))
+light_left xs ys h = all_left (λ w. nat_abs w ≤ most_weight) xs ys h
 
 light_right : (xs ys : List ℤ) → Light (xs ++ ys) → Light ys
-light_right [] ys h = h
-light_right (x ∷ xs) ys h = light_right xs ys (All-tail (λ w. nat_abs w ≤ most_weight) x (xs ++ ys) h)
+light_right xs ys h = all_right (λ w. nat_abs w ≤ most_weight) xs ys h
+
+abbrev IsName : List ℕ → Type 0
+IsName name = is_name name ≡ true
+
+-- the name of a join, and those below it
+pub names_join : (n : List ℕ) (op : Op) (left right : Tree) → AreNames (node_names (Join n op left right)) →
+    (is_name n ≡ true) × AreNames (node_names left) × AreNames (node_names right)
+unfolding node_names
+names_join n op left right h =
+    let below = All-tail IsName n (node_names left ++ node_names right) h in (
+      All-head IsName n (node_names left ++ node_names right) h,
+      all_left IsName (node_names left) (node_names right) below,
+      all_right IsName (node_names left) (node_names right) below,
+    )
+
+pub join_names : (n : List ℕ) (op : Op) (left right : Tree) → is_name n ≡ true → AreNames (node_names left) → AreNames (node_names right) →
+    AreNames (node_names (Join n op left right))
+unfolding node_names
+join_names n op left right e l r =
+    All-cons IsName n (node_names left ++ node_names right) e (All-append IsName (node_names left) (node_names right) l r)
 
 weight_light : (name : List ℕ) (weight : ℤ) (tree : Tree) → nat_abs weight ≤ most_weight → Light (weights tree) → Light (weights (with_weight name weight tree))
 unfolding weights with_weight
@@ -151,6 +183,7 @@ pub valid_weight : (f : Field) (name : List ℕ) (weight : ℤ) (tree : Tree) �
     IsValidTree f (with_weight name weight tree)
 valid_weight f name weight tree l v = record {
   valid_shape = subst (λ (s : shapes.Tree). IsValid f s) (sym (weight_shape name weight tree)) v.valid_shape;
+  formed = subst (λ (ns : List (List ℕ)). AreNames ns) (sym (weight_node_names name weight tree)) v.formed;
   different = subst (λ (ns : List (List ℕ)). IsDistinct bytes_eq ns) (sym (weight_names name weight tree)) v.different;
   few = subst (λ (ns : List (List ℕ)). length ns ≤ most_leaves) (sym (weight_names name weight tree)) v.few;
   shallow = subst (λ (k : ℕ). k ≤ most_depth) (sym (weight_depth name weight tree)) v.shallow;
@@ -167,6 +200,7 @@ valid_left f n op left right v =
     let c = v.shallow in
     record {
       valid_shape = v.valid_shape.3;
+      formed = (names_join n op left right v.formed).1;
       different = distinct_left (leaf_names left) (leaf_names right) v.different;
       few = omega arith;
       shallow = grind arith;
@@ -181,6 +215,7 @@ valid_right f n op left right v =
     let c = v.shallow in
     record {
       valid_shape = v.valid_shape.4;
+      formed = (names_join n op left right v.formed).2;
       different = distinct_right (leaf_names left) (leaf_names right) v.different;
       few = omega arith;
       shallow = grind arith;
@@ -199,7 +234,7 @@ valid_part f (Join n op left right) (false ∷ way) v = valid_part f right way (
 
 -- ---- an exchange
 
-shape_boundary : (tree : Tree) → shapes.boundary (shape tree) ≡ boundary tree
+pub shape_boundary : (tree : Tree) → shapes.boundary (shape tree) ≡ boundary tree
 unfolding shape boundary
 shape_boundary (Elem n vec weight) = refl
 shape_boundary (Void n t) = refl
@@ -237,6 +272,18 @@ shape_exchange f (Join n op left right) new (false ∷ way) v w e = (
   v.3,
   shape_exchange f right new way v.4 w e,
 )
+
+formed_exchange : (tree new : Tree) (way : Way) → AreNames (node_names tree) → AreNames (node_names new) → AreNames (node_names (with_node tree way new))
+unfolding with_node
+formed_exchange (Elem n vec weight) new [] v w = w
+formed_exchange (Void n t) new [] v w = w
+formed_exchange (Join n op left right) new [] v w = w
+formed_exchange (Elem n vec weight) new (step ∷ way) v w = v
+formed_exchange (Void n t) new (step ∷ way) v w = v
+formed_exchange (Join n op left right) new (true ∷ way) v w =
+    let h = names_join n op left right v in join_names n op (with_node left way new) right h.0 (formed_exchange left new way h.1 w) h.2
+formed_exchange (Join n op left right) new (false ∷ way) v w =
+    let h = names_join n op left right v in join_names n op left (with_node right way new) h.0 h.1 (formed_exchange right new way h.2 w)
 
 light_exchange : (tree new : Tree) (way : Way) → Light (weights tree) → Light (weights new) → Light (weights (with_node tree way new))
 unfolding with_node weights
@@ -355,6 +402,7 @@ valid_exchange f tree new way v w e =
     (first_taken (names_outside tree way) (leaf_names new)) (boundary (node_at tree way)) (boundary new) e in
     record {
       valid_shape = shape_exchange f tree new way v.valid_shape w.valid_shape (eqb-true (boundary (node_at tree way)) (boundary new) p.0);
+      formed = formed_exchange tree new way v.formed w.formed;
       different = names_exchange tree new way v.different w.different (none_taken (names_outside tree way) (leaf_names new) p.1);
       few = leb-true (length (leaf_names after)) most_leaves p.2;
       shallow = leb-true (depth after) most_depth p.3;

@@ -4,7 +4,7 @@ use Rattle.std.specs.Option.{is_some}
 use Rattle.std.specs.Str.{bytes_eq}
 use Rattle.std.proofs.lemmas.List.Folds.{list_any-append}
 use Rattle.mm_logic.specs.Operator.{Op}
-use Rattle.mm_tree.specs.NamedTree.{Tree, depth, nodes, leaf_names, element_names, is_one_of}
+use Rattle.mm_tree.specs.NamedTree.{Tree, depth, nodes, node_names, leaf_names, element_names, is_one_of}
 use Rattle.mm_tree.specs.NamedTree.Tree.{Join}
 use Rattle.mm_tree.specs.Nodes.{named, named_leaf}
 use Rattle.mm_tree.specs.Weights.{weight_named}
@@ -27,6 +27,14 @@ unfolding nodes
 leaf_nodes l = go l.item
   where
     go : (item : Option Item) → nodes (named_leaf (record l { item = item })) ≡ 1
+    go None = refl
+    go (Some item) = refl
+
+pub leaf_node_name : (l : leaves.Leaf) → node_names (named_leaf l) ≡ l.name ∷ []
+unfolding node_names
+leaf_node_name l = go l.item
+  where
+    go : (item : Option Item) → node_names (named_leaf (record l { item = item })) ≡ l.name ∷ []
     go None = refl
     go (Some item) = refl
 

@@ -4,6 +4,7 @@ pub mod ValidTree
 pub mod TreeCode
 pub mod TreeValue
 pub mod TreeView
+pub mod TreeText
 pub mod Nodes
 pub mod Places
 pub mod Weights

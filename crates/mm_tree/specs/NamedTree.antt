@@ -30,6 +30,12 @@ leaf_names (Elem name vec weight) = name ∷ []
 leaf_names (Void name t) = name ∷ []
 leaf_names (Join name op left right) = leaf_names left ++ leaf_names right
 
+-- The names of the nodes: of the leaves, and of the operators of the joins.
+unfoldable pub node_names : Tree → List (List ℕ)
+node_names (Elem name vec weight) = name ∷ []
+node_names (Void name t) = name ∷ []
+node_names (Join name op left right) = name ∷ (node_names left ++ node_names right)
+
 -- The names of the elements, in leaf order.
 unfoldable pub element_names : Tree → List (List ℕ)
 element_names (Elem name vec weight) = name ∷ []

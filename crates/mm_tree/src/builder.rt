@@ -11,6 +11,7 @@ ghost use Rattle.mm_tree.specs.BuilderView.{IsGoodLeaf, tree_of};
 ghost use Rattle.mm_tree.specs.ValidTree.{most_weight};
 ghost use Rattle.mm_tree.specs.declared.builder.BuildFault.TheVariants.{TooFew};
 
+use crate::node::names_have_their_form;
 use crate::{Item, Leaf, MAX_DEPTH, MAX_LEAVES, Node, Tree, walk};
 use indexmap::IndexSet;
 use mm_base::Name;
@@ -138,6 +139,7 @@ impl Builder {
         if let Some(fault) = self.leaf_fault(&leaf.name) {
             return Err(fault);
         }
+        names_have_their_form(&leaf.name);
         let Ok(node) = Box::new(alloc, Node::Leaf(leaf)) else {
             return Err(BuildFault::NoMemory);
         };
@@ -187,6 +189,7 @@ impl Builder {
         if let Some(fault) = self.join_fault(&op) {
             return Err(fault);
         }
+        names_have_their_form(&name);
         // The room for the join is made first: a refusal then loses no tree.
         let leaf = Leaf {
             field: op.field(),

@@ -8,12 +8,14 @@ mod replace;
 mod splice;
 mod tree;
 mod walk;
+mod write;
 
 pub use builder::{BuildFault, Builder};
 pub use node::{Item, Leaf, Node};
 pub use place::Place;
 pub use replace::ReplaceFault;
 pub use tree::Tree;
+pub use write::write_tree;
 
 /// The most leaves of a tree.
 const MAX_LEAVES: usize = 8192;

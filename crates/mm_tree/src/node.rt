@@ -1,5 +1,8 @@
 //! The nodes of a tree.
 
+ghost use Rattle.std.specs.Prelude.{◌≡◌, true};
+ghost use Rattle.mm_base.specs.Names.{is_name};
+
 use mm_base::Name;
 use mm_field::Field;
 use mm_ops::Op;
@@ -32,4 +35,11 @@ pub struct Leaf {
 pub enum Node {
     Leaf(Leaf),
     Join(Name, Op, Box<Node>, Box<Node>),
+}
+
+/// The law that a name has the form of a name.
+pub(crate) fn names_have_their_form(name: &Name)
+    ensures { is_name name.now ≡ true }
+{
+    let _ = name.bytes();
 }

@@ -1,6 +1,6 @@
 -- What is read of a text of digits is what the text shows.
 use Rattle.std.proofs.Common.{◌≡◌, ℕ, zero, suc, ◌+◌, ◌-◌, ◌<◌, ◌≤◌, Bool, true, false, nat_lt, nat_eq, List, [], ◌∷◌, ◌++◌, length, map, get_or, Option, Some, None, refl, sym, ap, ap₂, ◌∙◌, subst, arith}
-use Rattle.std.specs.Prelude.{◌&&◌, ◌==◌, nat_le, codes, All, IfSome, IfNone, if◌then◌else◌}
+use Rattle.std.specs.Prelude.{◌&&◌, nat_le, codes, IfSome, IfNone, if◌then◌else◌}
 use Rattle.std.specs.List.{list_all, slice_split, join_with_byte}
 use Rattle.std.specs.Str.{bytes_eq}
 use Rattle.std.proofs.lemmas.Bool.{le-leb, leb-true, lt-ltb, ltb-true, eqb-true}
@@ -14,15 +14,15 @@ use Rattle.mm_field.specs.Vectors.{AreDigits}
 use Rattle.mm_space.specs.VectorText.{vector_text, IsVectorText, joined_text, gen_text, IsGenText}
 use Rattle.mm_words.specs.DigitTexts.{is_digit, digit_of, digits_of, vector_of, with_vector, each_vector, is_slash, vectors_of}
 
-both : (a b : Bool) → a ≡ true → b ≡ true → (a && b) ≡ true
+pub both : (a b : Bool) → a ≡ true → b ≡ true → (a && b) ≡ true
 both true b p q = q
 both false b p q = p
 
-first_of_both : (a b : Bool) → (a && b) ≡ true → a ≡ true
+pub first_of_both : (a b : Bool) → (a && b) ≡ true → a ≡ true
 first_of_both true b p = refl
 first_of_both false b p = p
 
-second_of_both : (a b : Bool) → (a && b) ≡ true → b ≡ true
+pub second_of_both : (a b : Bool) → (a && b) ≡ true → b ≡ true
 second_of_both true b p = p
 second_of_both false true p = refl
 second_of_both false false p = p

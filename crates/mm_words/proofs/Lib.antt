@@ -1,3 +1,9 @@
 pub mod ReaderLaws
 mod DigitLaws
 mod TakenLaws
+mod SpacedLaws
+mod NumeralLaws
+mod TextLineLaws
+mod WrittenLineLaws
+mod WrittenTreeLaws
+mod ReadTreeLaws

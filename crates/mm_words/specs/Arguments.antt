@@ -1,6 +1,5 @@
 -- The words of a line: its first token, and the others, which are its arguments.
-use Rattle.std.specs.Prelude.{ℕ, Bool, true, false, ◌&&◌, ◌==◌, List, [], ◌∷◌, length, drop, Option, Some, None, Ok, Err}
-use Rattle.std.specs.declared.result.Result.{Result}
+use Rattle.std.specs.Prelude.{ℕ, Bool, false, ◌&&◌, ◌==◌, List, [], ◌∷◌, length, drop, Option, Some, None}
 use Rattle.std.specs.Str.{bytes_eq}
 use Rattle.mm_lines.specs.LineBytes.{bytes_of}
 use Rattle.mm_lines.specs.Tokens.{tokens}

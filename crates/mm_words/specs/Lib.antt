@@ -8,3 +8,4 @@ pub mod OperatorLines
 pub mod OperatorTokens
 pub mod TreeLines
 pub mod Becoming
+pub mod WrittenTrees

@@ -1,5 +1,5 @@
 -- What the tokens of an operator's line are to contracts.
-use Rattle.std.specs.Prelude.{ℕ, List, Option, Some, None, option_copied}
+use Rattle.std.specs.Prelude.{option_copied}
 use Rattle.mm_words.specs.OperatorLines.{OperatorTokens}
 use Rattle.mm_words.specs.declared.operator_words.Written.{Written}
 

@@ -1,10 +1,9 @@
 -- Readers of lines: each takes some lines from the front of a list.
-use Rattle.std.specs.Prelude.{ℕ, Bool, List, [], ◌∷◌, Option, Some, None, Ok, Err, if◌then◌else◌}
+use Rattle.std.specs.Prelude.{Bool, List, [], ◌∷◌, Option, Some, None, Ok, Err, if◌then◌else◌}
 use Rattle.std.specs.declared.result.Result.{Result}
 use Rattle.mm_lines.specs.declared.line.Line.{Line}
 use Rattle.mm_words.specs.Arguments.{too_long}
 use Rattle.mm_words.specs.declared.refusal.Refusal.{Refusal}
-use Rattle.mm_words.specs.declared.refusal.Refusal.TheVariants as refusal
 
 -- What a reader makes of some lines: a value and the lines behind it; or the refusal of the first line that is faulty; or
 -- nothing yet, where no line is faulty and they are too few.

@@ -1,5 +1,5 @@
 -- The lines of a tree. The trees that are not joined yet stand with the last one first.
-use Rattle.std.specs.Prelude.{ℕ, nat_abs, Bool, not, ◌||◌, ◌==◌, nat_lt, List, [], ◌∷◌, length, flat_map, codes, Option, Some, None, Ok, Err, if◌then◌else◌}
+use Rattle.std.specs.Prelude.{ℕ, nat_abs, Bool, not, ◌||◌, ◌==◌, nat_lt, List, [], ◌∷◌, length, flat_map, codes, Option, Some, None, Ok, if◌then◌else◌}
 use Rattle.std.specs.declared.result.Result.{Result}
 use Rattle.mm_base.specs.Names.{is_name}
 use Rattle.mm_field.specs.declared.Field.{Field}

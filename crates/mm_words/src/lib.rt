@@ -12,6 +12,7 @@ mod refusal;
 mod rows;
 mod tree_words;
 mod wording;
+mod written;
 
 pub use arguments::{args, begins, is_text, is_word, one, three, too_long, two};
 pub use digits::{read_digits, read_vector, read_vectors};
@@ -24,6 +25,7 @@ pub use refusal::{Limit, Refusal, Stop};
 pub use rows::add_row;
 pub use tree_words::{ElementWords, VoidWords, is_tree_part, read_element, read_join, read_void};
 pub use wording::words;
+pub use written::{read_trees_have_their_operators, written_trees_are_read_back};
 
 #[cfg(test)]
 mod tests;

@@ -25,7 +25,7 @@ invariant_of-self-2 c =
     let after : now ≡ front ++ g ∷ [] = search rules in
     let deep : c.max-depth.result ≡ max l.depth r.depth = search rules in
     record {
-      each = all_after f items rest front now c.args.name c.args.op l r g last before after (c.requires ∙ sym field) c.field.ensures.valid
+      each = all_after f items rest front now c.args.name c.args.op l r g last before after c.names_have_their_form.ensures (c.requires ∙ sym field) c.field.ensures.valid
           (ap (join_fault c.args.op) trees ∙ sym c.join_fault.ensures ∙ c.in_default.is) refl (ap (λ (k : ℕ). k + 1) deep) c.self.invariant.each;
       names = c.self.invariant.names ∙ names_after items rest front now c.args.name c.args.op l r g last before after refl;
       different = c.self.invariant.different;

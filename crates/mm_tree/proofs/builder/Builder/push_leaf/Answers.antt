@@ -37,7 +37,7 @@ invariant_of-self-else-is_err-2 c =
     record {
       each = subst (λ (xs : List Grown). All (λ g. IsGrown f g) xs) (sym pushed)
           (All-append (λ g. IsGrown f g) items (g ∷ []) c.self.invariant.each
-          (All-cons (λ g. IsGrown f g) g [] (leaf_grown f l g value refl good) (All-nil (λ g. IsGrown f g))));
+          (All-cons (λ g. IsGrown f g) g [] (leaf_grown f l g value refl good c.names_have_their_form.ensures) (All-nil (λ g. IsGrown f g))));
       names = keys ∙ names_push items l g old value names ∙ ap (λ (xs : List Grown). names_in (trees_of xs)) (sym pushed);
       different = subst (λ (ns : List (List ℕ)). IsDistinct bytes_eq ns) (sym keys) (distinct_push old l.name c.self.invariant.different absent);
       few = subst (λ (ns : List (List ℕ)). length ns ≤ most_leaves) (sym keys) (let a = length-append old (l.name ∷ []) in omega arith);
