@@ -6,6 +6,11 @@ use Rattle.std.proofs.Math.Seq.{take-suc}
 use Rattle.std.proofs.lemmas.List.{map-append, length-map, length-take-le, length-replicate, get_or-map, take_all}
 use Rattle.std.proofs.lemmas.List.Elements.{All-nil, All-cons, All-map, All-append}
 use Rattle.mm_linear.proofs.LeafLaws.{chosen-append}
+use Rattle.mm_field.specs.declared.Field.{Field}
+use Rattle.mm_field.specs.Vectors.{AreVectors}
+use Rattle.mm_logic.specs.PresentMatrix.{internal, chosen}
+use Rattle.mm_logic.specs.Tree.{Tree, IsValid, boundary}
+use Rattle.mm_laws.proofs.MatrixLemmas.{chosen_are}
 use Rattle.mm_logic.specs.Marks.{mark, assign, none, singles}
 use Rattle.mm_laws.proofs.LeastLemmas.{assign-append}
 use Rattle.mm_plain.specs.Rows.{rows_of}
@@ -55,7 +60,7 @@ pub set_length : {A : Type 0} (n : ℕ) (sets : List (Vec Bool A)) (i : ℕ) (se
 set_length n sets i set h l e =
     ap length (sym (test_at sets i set set.items l e)) ∙ h i set.items (subst (λ k. i < k) (sym (length-map sets (λ v. v.items))) l)
 
-pub some_passes : (p : List Bool → Bool) (xs : List (List Bool)) (i : ℕ) (d : List Bool) → i < length xs → p (get_or xs i d) ≡ true → list_any p xs ≡ true
+pub some_passes : {X : Type 0} (p : X → Bool) (xs : List X) (i : ℕ) (d : X) → i < length xs → p (get_or xs i d) ≡ true → list_any p xs ≡ true
 some_passes p [] i d l h = absurd (omega arith)
 some_passes p (x ∷ xs) zero d l h = ap (λ b. b || list_any p xs) h
 some_passes p (x ∷ xs) (suc i) d l h = ap (λ b. p x || b) (some_passes p xs i d (omega (arith, l)) h) ∙ either (p x)
@@ -92,3 +97,9 @@ all_more P xs i d l h p =
 -- and at the end it is one of all values
 pub all_taken : {A : Type 0} (P : A → Type 0) (xs : List A) (i : ℕ) → length xs ≤ i → All P (take i xs) → All P xs
 all_taken P xs i l h = subst (λ ys. All P ys) (take_all i xs l) h
+
+-- the columns of a set, where their digits are counted
+pub chosen_rows : (f : Field) (T : Tree) (X : List Bool) (rows : List (List ℕ)) (t m : ℕ) → IsValid f T → rows ≡ chosen f T X →
+    t ≡ boundary T → m ≡ internal T → AreVectors f (t + m) rows
+chosen_rows f T X rows t m ok is et em =
+    subst (λ us. AreVectors f (t + m) us) (sym is) (subst (λ n. AreVectors f n (chosen f T X)) (sym (ap₂ (λ a b. a + b) et em)) (chosen_are f T X ok))

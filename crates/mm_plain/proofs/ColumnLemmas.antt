@@ -32,7 +32,7 @@ cut_at_length f r [] h = refl
 cut_at_length f r (v ∷ rows) h =
     (λ i. take_all r v (let e = (h 0 v (omega arith)).len in omega arith) i ∷ cut_at_length f r rows (λ k d l. h (suc k) d (omega (arith, l))) i)
 
-one_more : (k : ℕ) → range_with_len 0 (k + 1) ≡ range_with_len 0 k ++ (k ∷ [])
+pub one_more : (k : ℕ) → range_with_len 0 (k + 1) ≡ range_with_len 0 k ++ (k ∷ [])
 one_more k = sym (same (range_with_len 0 (k + 1))) ∙ map-range_with_len_more (λ x. x) 0 k k (omega arith) ∙ ap (λ xs. xs ++ (k ∷ [])) (same (range_with_len 0 k))
   where
     same : (xs : List ℕ) → map (λ x. x) xs ≡ xs

@@ -2,3 +2,7 @@ pub mod SpanLemmas
 pub mod ColumnLemmas
 pub mod AssignmentLemmas
 pub mod WeightLemmas
+pub mod OrderLemmas
+pub mod InsertionLemmas
+pub mod ReducedLemmas
+pub mod SizeLemmas

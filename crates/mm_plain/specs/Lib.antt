@@ -3,3 +3,6 @@ pub mod Trees
 pub mod Formulas
 pub mod Asked
 pub mod LeastSets
+pub mod Values
+pub mod Spaces
+pub mod Sizes

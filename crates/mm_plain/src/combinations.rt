@@ -25,7 +25,7 @@ fn less(alloc: Global, f: Field, x: &[u8], c: u8, v: &[u8]) -> Result<Vec<u8>, A
 }
 
 /// Whether v is the zero vector.
-fn is_zero(v: &[u8]) -> bool
+pub fn is_zero(v: &[u8]) -> bool
     ensures { result ≡ list_all (λ d. d == 0) v.now }
 {
     v.iter().all(|d| *d == 0)

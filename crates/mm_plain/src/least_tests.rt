@@ -10,7 +10,7 @@ use std::process::Abort;
 use std::test::Fail;
 
 /// The sought set is independent, and with each other element it is dependent.
-fn is_basis(alloc: Global) -> Result<Formula, AllocError> {
+pub fn is_basis(alloc: Global) -> Result<Formula, AllocError> {
     let larger = not(alloc, independent(alloc, &[0, 1])?)?;
     let maximal = both(alloc, Connective::Or, Formula::Member(1, 0), larger)?;
     let each = all_elem(alloc, 1, maximal)?;

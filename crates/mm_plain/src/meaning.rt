@@ -119,6 +119,25 @@ fn chosen(alloc: Global, columns: &[Vec<u8>], set: &[bool]) -> Result<Vec<Vec<u8
     Ok(kept)
 }
 
+/// The columns of the elements of the union of a term.
+pub fn union_columns(
+    alloc: Global,
+    f: Field,
+    tree: &Tree,
+    term: &Term,
+    marks: &[Marks],
+) -> Result<Vec<Vec<u8>>, AllocError>
+    requires valid { IsValid f (tree_of tree.now) }
+    requires small { matrix.internal (tree_of tree.now) < 2 ^ 32 }
+    requires slots { All (λ k. k < 16) term.now.slots.items }
+    requires each { length marks.now ≡ size (tree_of tree.now) }
+    ensures { IfOk result (λ v. rows_of v.items ≡ matrix.chosen f (tree_of tree.now) (meaning.union (term_of term.now) (map marks_of marks.now))) }
+{
+    let all = columns(alloc, f, tree)?;
+    let set = union(alloc, term, marks)?;
+    Ok(chosen(alloc, &all, &set)?)
+}
+
 /// Whether the union of a term is independent.
 fn is_independent_union(
     alloc: Global,
@@ -133,14 +152,12 @@ fn is_independent_union(
     requires each { length marks.now ≡ size (tree_of tree.now) }
     ensures { IfOk result (λ b. b ≡ matrix.is_independent_set f (tree_of tree.now) (meaning.union (term_of term.now) (map marks_of marks.now))) }
 {
-    let all = columns(alloc, f, tree)?;
-    let set = union(alloc, term, marks)?;
-    let some = chosen(alloc, &all, &set)?;
+    let some = union_columns(alloc, f, tree, term, marks)?;
     Ok(independent(alloc, f, boundary(tree) + internal(tree), &some)?)
 }
 
 /// Whether some element has both slots.
-fn some_has_both(marks: &[Marks], x: usize, y: usize) -> bool
+pub fn some_has_both(marks: &[Marks], x: usize, y: usize) -> bool
     requires first { x < 16 }
     requires second { y < 16 }
     ensures { result ≡ list_any (λ m. slice_index_or m x false && slice_index_or m y false) marks.now }
@@ -149,7 +166,7 @@ fn some_has_both(marks: &[Marks], x: usize, y: usize) -> bool
 }
 
 /// Whether each element that has the first slot has the second.
-fn is_subset(marks: &[Marks], a: usize, b: usize) -> bool
+pub fn is_subset(marks: &[Marks], a: usize, b: usize) -> bool
     requires first { a < 16 }
     requires second { b < 16 }
     ensures { result ≡ list_all (λ m. formula.implies (slice_index_or m a false) (slice_index_or m b false)) marks.now }
@@ -158,7 +175,7 @@ fn is_subset(marks: &[Marks], a: usize, b: usize) -> bool
 }
 
 /// Whether the same elements have both slots.
-fn is_same_set(marks: &[Marks], a: usize, b: usize) -> bool
+pub fn is_same_set(marks: &[Marks], a: usize, b: usize) -> bool
     requires first { a < 16 }
     requires second { b < 16 }
     ensures { result ≡ list_all (λ m. formula.iff (slice_index_or m a false) (slice_index_or m b false)) marks.now }
@@ -218,7 +235,7 @@ pub fn sets(alloc: Global, n: usize) -> Result<Vec<Vec<bool>>, AllocError>
 }
 
 /// The empty set of n elements.
-fn none(alloc: Global, n: usize) -> Result<Vec<bool>, AllocError>
+pub fn none(alloc: Global, n: usize) -> Result<Vec<bool>, AllocError>
     ensures { IfOk result (λ v. v.items ≡ marks_spec.none n) }
 {
     let mut tests = Vec::new(alloc);
@@ -229,7 +246,7 @@ fn none(alloc: Global, n: usize) -> Result<Vec<bool>, AllocError>
 }
 
 /// The sets of one element of n, in leaf order.
-fn singles(alloc: Global, n: usize) -> Result<Vec<Vec<bool>>, AllocError>
+pub fn singles(alloc: Global, n: usize) -> Result<Vec<Vec<bool>>, AllocError>
     ensures { IfOk result (λ v. tests_of v.items ≡ marks_spec.singles n) }
 {
     let mut all = Vec::new(alloc);

@@ -6,7 +6,7 @@ use std::alloc::{AllocError, Global};
 use std::process::Abort;
 use std::test::Fail;
 
-fn rows(alloc: Global, digits: &[&[u8]]) -> Result<Vec<Vec<u8>>, AllocError> {
+pub fn rows(alloc: Global, digits: &[&[u8]]) -> Result<Vec<Vec<u8>>, AllocError> {
     let mut all = Vec::new(alloc);
     for row in digits {
         all.push(row.to_vec(alloc)?)?;
@@ -18,7 +18,7 @@ pub fn elem(alloc: Global, digits: &[u8]) -> Result<Tree, AllocError> {
     Ok(Tree::Elem(digits.to_vec(alloc)?))
 }
 
-fn join(alloc: Global, op: Op, left: Tree, right: Tree) -> Result<Tree, AllocError> {
+pub fn join(alloc: Global, op: Op, left: Tree, right: Tree) -> Result<Tree, AllocError> {
     Ok(Tree::Join(op, Box::new(alloc, left)?, Box::new(alloc, right)?))
 }
 
@@ -47,7 +47,7 @@ pub fn circuit(alloc: Global) -> Result<Tree, AllocError> {
 }
 
 /// The same circuit by a third boundary of its own: the sum of the first two elements.
-fn circuit_by_sum(alloc: Global) -> Result<Tree, AllocError> {
+pub fn circuit_by_sum(alloc: Global) -> Result<Tree, AllocError> {
     let g = Op {
         t1: 1,
         t2: 1,
@@ -115,7 +115,7 @@ pub fn all_elem(alloc: Global, k: usize, part: Formula) -> Result<Formula, Alloc
     Ok(Formula::AllElem(k, Box::new(alloc, part)?))
 }
 
-fn ex_elem(alloc: Global, k: usize, part: Formula) -> Result<Formula, AllocError> {
+pub fn ex_elem(alloc: Global, k: usize, part: Formula) -> Result<Formula, AllocError> {
     Ok(Formula::ExElem(k, Box::new(alloc, part)?))
 }
 
@@ -123,7 +123,7 @@ pub fn all_set(alloc: Global, k: usize, part: Formula) -> Result<Formula, AllocE
     Ok(Formula::AllSet(k, Box::new(alloc, part)?))
 }
 
-fn ex_set(alloc: Global, k: usize, part: Formula) -> Result<Formula, AllocError> {
+pub fn ex_set(alloc: Global, k: usize, part: Formula) -> Result<Formula, AllocError> {
     Ok(Formula::ExSet(k, Box::new(alloc, part)?))
 }
 

@@ -61,7 +61,7 @@ pub fn internal(tree: &Tree) -> usize
 }
 
 /// Puts n zeros after what is there.
-fn push_zeros(out: &mut Vec<u8>, n: usize) -> Result<(), AllocError>
+pub fn push_zeros(out: &mut Vec<u8>, n: usize) -> Result<(), AllocError>
     ensures { IfOk result (λ _. out.new.items ≡ out.old.items ++ vectors.zeros n) }
 {
     for _ in 0..n {

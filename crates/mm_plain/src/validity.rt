@@ -146,7 +146,7 @@ fn are_few(slots: &[usize]) -> bool
 }
 
 /// Puts an element without marks, for each element of the tree, after what is there.
-fn push_unmarked(tree: &Tree, out: &mut Vec<Marks>) -> Result<(), AllocError>
+pub fn push_unmarked(tree: &Tree, out: &mut Vec<Marks>) -> Result<(), AllocError>
     ensures { IfOk result (λ _. map marks_of out.new.items ≡ map marks_of out.old.items ++ marks_spec.unmarked (size (tree_of tree.now))) }
 {
     match tree {

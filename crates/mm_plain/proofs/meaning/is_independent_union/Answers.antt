@@ -1,31 +1,12 @@
-use Rattle.std.proofs.Common.{◌≡◌, ◌+◌, map, length, sym, ap, ap₂, ◌∙◌, subst}
-use Rattle.std.specs.List.{items_where_true}
-use Rattle.std.proofs.lemmas.List.{length-map}
-use Rattle.mm_field.specs.Vectors.{AreVectors}
-use Rattle.mm_logic.specs.PresentMatrix.{columns}
-use Rattle.mm_logic.specs.Marks.{in_term}
+use Rattle.std.proofs.Common.{map, ap, ◌∙◌}
 use Rattle.mm_logic.specs.Meaning.{union}
-use Rattle.mm_laws.proofs.MatrixLemmas.{length-columns, chosen_are}
 use Rattle.mm_plain.specs.Rows.{rows_of}
 use Rattle.mm_plain.specs.Trees.{tree_of}
 use Rattle.mm_plain.specs.Formulas.{term_of, marks_of}
+use Rattle.mm_plain.proofs.AssignmentLemmas.{chosen_rows}
 use Rattle.mm_plain.proofs.meaning.is_independent_union.Goals as goal
-
-pub chosen-requires : goal.chosen-requires
-chosen-requires c =
-    let ms = map marks_of c.args.marks.now in
-    let T = tree_of c.args.tree.now in
-    ap length c.deref-2.ensures.value ∙ ap length c.in_ok-set.ensures
-    ∙ length-map ms (in_term (term_of c.args.term.now)) ∙ length-map c.args.marks.now marks_of ∙ c.requires.each
-    ∙ sym (sym (length-map c.deref.result.now (λ v. v.items)) ∙ ap length (ap rows_of c.deref.ensures.value ∙ c.in_ok-all.ensures) ∙ length-columns c.args.f T)
 
 pub independent-requires : goal.independent-requires
 independent-requires c =
-    let f = c.args.f in
-    let T = tree_of c.args.tree.now in
-    let X = union (term_of c.args.term.now) (map marks_of c.args.marks.now) in
-    let rows : rows_of c.deref-3.result.now ≡ items_where_true X (columns f T) =
-    ap rows_of c.deref-3.ensures.value ∙ c.in_ok-some.ensures
-    ∙ ap₂ (λ Y us. items_where_true Y us) (c.deref-2.ensures.value ∙ c.in_ok-set.ensures) (ap rows_of c.deref.ensures.value ∙ c.in_ok-all.ensures) in
-    subst (λ xs. AreVectors f (c.boundary.result + c.internal.result) xs) (sym rows)
-    (subst (λ n. AreVectors f n (items_where_true X (columns f T))) (sym (ap₂ (λ a b. a + b) c.boundary.ensures c.internal.ensures)) (chosen_are f T X c.requires.valid))
+    chosen_rows c.args.f (tree_of c.args.tree.now) (union (term_of c.args.term.now) (map marks_of c.args.marks.now)) (rows_of c.deref.result.now)
+    c.boundary.result c.internal.result c.requires.valid (ap rows_of c.deref.ensures.value ∙ c.in_ok-some.ensures) c.boundary.ensures c.internal.ensures
