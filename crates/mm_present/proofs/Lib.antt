@@ -1,0 +1,11 @@
+pub mod RowFormLaws
+mod SideLaws
+mod GrowLaws
+mod SolveLaws
+mod RangeLaws
+mod TreeRows
+mod NodeLaws
+mod NameLaws
+mod StackLaws
+mod CompareLaws
+mod RankLaws

@@ -1,0 +1,85 @@
+-- Rows of a matrix, each times its coefficient, added one by one from the last to the first; and the rows of a join.
+use Rattle.std.proofs.Common.{ℕ, suc, ◌+◌, ◌-◌, ◌<◌, ◌≤◌, ◌≡◌, List, [], ◌∷◌, ◌++◌, length, map, reverse, get_or, drop, sym, ap, ap₂, subst, ◌∙◌, arith, append_assoc}
+use Rattle.std.specs.List.{range_with_len}
+use Rattle.std.proofs.lemmas.List.{drop_more, drop_all, length-map, reverse-append}
+use Rattle.mm_field.specs.declared.Field.{Field}
+use Rattle.mm_field.specs.Vectors.{zeros, vector_sum, multiple, combination, IsVector, AreVectors}
+use Rattle.mm_field.proofs.VectorLaws.{vector_sum_comm}
+use Rattle.mm_field.proofs.CombinationLaws.{IsVector-combination}
+use Rattle.mm_field.proofs.PartLaws.{IsVector-append}
+use Rattle.mm_linear.proofs.SumLaws.{next_rows}
+use Rattle.mm_logic.specs.Operator.{row_length}
+use Rattle.mm_logic.specs.PresentMatrix.{column_digits}
+use Rattle.mm_matrix.specs.MatrixValue.{MatrixValue}
+use Rattle.mm_ops.specs.OpValue.{OpValue}
+use Rattle.mm_present.specs.RowForm.{row_of, in_join}
+use Rattle.mm_present.specs.Joining.{ArePart, IsSide, side_row, join_row, joined_row}
+use Rattle.mm_present.specs.declared.sides.Side.{Side}
+
+pub sum_start : (f : Field) (n t : ℕ) (b : List ℕ) (rows : List (List ℕ)) → length b ≡ t → zeros n ≡ combination f n (drop t b) (drop t rows)
+sum_start f n t b rows e = sym (ap (λ x. combination f n x (drop t rows)) (drop_all t b (omega arith)))
+
+pub sum_step : (f : Field) (n : ℕ) (b : List ℕ) (rows : List (List ℕ)) (j : ℕ) (out : List ℕ) (a : ℕ) (x new : List ℕ) → 0 < j → j ≤ length b →
+    j ≤ length rows → out ≡ combination f n (drop j b) (drop j rows) → a ≡ get_or b (j - 1) 0 → x ≡ get_or rows (j - 1) [] →
+    new ≡ vector_sum f out (multiple f a x) → new ≡ combination f n (drop (j - 1) b) (drop (j - 1) rows)
+sum_step f n b rows j out a x new p lb lr out_is a_is x_is new_is =
+    let e : j - 1 + 1 ≡ j = omega arith in
+    let next : drop (j - 1) b ≡ get_or b (j - 1) 0 ∷ drop j b = drop_more b (j - 1) 0 (omega arith) ∙ ap (λ k. get_or b (j - 1) 0 ∷ drop k b) e in
+    new_is
+    ∙ vector_sum_comm f out (multiple f a x)
+    ∙ ap₂ (λ u w. vector_sum f u w) (ap₂ (λ c v. multiple f c v) a_is x_is) out_is
+    ∙ sym (ap₂ (λ cs vs. combination f n cs vs) next (next_rows rows j p lr))
+
+-- ---- the rows of a join
+
+side_vector : (f : Field) (r k : ℕ) (side : Side) → IsSide f r side → IsVector f side.rows.cols (side_row k side)
+side_vector f r k side h =
+    subst (λ g. IsVector g side.rows.cols (side_row k side)) h.field
+    (IsVector-combination side.rows.f side.rows.cols (row_of side.digits.rows k) side.rows.rows
+    (subst (λ g. AreVectors g side.rows.cols side.rows.rows) (sym h.field) h.each))
+
+pub join_row_vector : (f : Field) (r k : ℕ) (left right : Side) → IsSide f r left → IsSide f r right →
+    IsVector f (left.rows.cols + right.rows.cols) (join_row left right k)
+join_row_vector f r k left right hl hr =
+    IsVector-append f left.rows.cols right.rows.cols (side_row k left) (side_row k right) (side_vector f r k left hl) (side_vector f r k right hr)
+
+-- one more row of those from the last to the first
+pub internal_step : (w : List ℕ → List ℕ) (h : ℕ → List ℕ) (t c k : ℕ) (old now new : List (List ℕ)) (row : List ℕ) → 0 < k → k ≤ c →
+    now ≡ old ++ reverse (map w (map h (range_with_len (t + k) (c - k)))) → row ≡ w (h (t + (k - 1))) → new ≡ now ++ row ∷ [] →
+    new ≡ old ++ reverse (map w (map h (range_with_len (t + (k - 1)) (c - (k - 1)))))
+internal_step w h t c k old now new row p l e er en =
+    let a = t + (k - 1) in
+    let n = c - k in
+    let more : c - (k - 1) ≡ suc n = omega arith in
+    let next : t + k ≡ a + 1 = omega arith in
+    let rest = map w (map h (range_with_len (a + 1) n)) in
+    en
+    ∙ ap₂ (λ x y. x ++ y ∷ []) (e ∙ ap (λ i. old ++ reverse (map w (map h (range_with_len i n)))) next) er
+    ∙ append_assoc old (reverse rest) (w (h a) ∷ [])
+    ∙ ap (λ x. old ++ x) (sym (reverse-append (w (h a) ∷ []) rest))
+    ∙ ap (λ m. old ++ reverse (map w (map h (range_with_len a m)))) (sym more)
+
+-- a join of children with these boundary rows
+pub side_is : (op : OpValue) (t : ℕ) (m : MatrixValue) (g : List (List ℕ)) (side : Side) → ArePart op.f t m → length g ≡ t →
+    (side.rows ≡ m) × (side.digits ≡ record { f = op.f; cols = row_length op.op; rows = in_join op.f op.op g }) → IsSide op.f (row_length op.op) side
+side_is op t m g side h e p = record {
+  field = ap (λ (x : MatrixValue). x.f) p.0 ∙ h.field;
+  digits_field = ap (λ (x : MatrixValue). x.f) p.1;
+  width = ap (λ (x : MatrixValue). x.cols) p.1;
+  count = ap (λ (x : MatrixValue). length x.rows) p.1 ∙ length-map g (column_digits op.f op.op) ∙ e ∙ sym h.count ∙ sym (ap (λ (x : MatrixValue). length x.rows) p.0);
+  each = subst (λ (x : MatrixValue). AreVectors op.f x.cols x.rows) (sym p.0) h.each;
+}
+
+side_row_is : (op : OpValue) (m : MatrixValue) (g : List (List ℕ)) (side : Side) (k : ℕ) → m.f ≡ op.f →
+    (side.rows ≡ m) × (side.digits ≡ record { f = op.f; cols = row_length op.op; rows = in_join op.f op.op g }) →
+    side_row k side ≡ combination op.f m.cols (row_of (in_join op.f op.op g) k) m.rows
+side_row_is op m g side k e p =
+    ap₂ (λ (x d : MatrixValue). combination x.f x.cols (row_of d.rows k) x.rows) p.0 p.1
+    ∙ ap (λ h. combination h m.cols (row_of (in_join op.f op.op g) k) m.rows) e
+
+pub join_row_is : (op : OpValue) (l r : MatrixValue) (left right : Side) (k : ℕ) → l.f ≡ op.f → r.f ≡ op.f →
+    (left.rows ≡ l) × (left.digits ≡ record { f = op.f; cols = row_length op.op; rows = in_join op.f op.op op.op.g1 }) →
+    (right.rows ≡ r) × (right.digits ≡ record { f = op.f; cols = row_length op.op; rows = in_join op.f op.op op.op.g2 }) →
+    join_row left right k ≡ joined_row op l r k
+join_row_is op l r left right k el er pl pr =
+    ap₂ (λ x y. x ++ y) (side_row_is op l op.op.g1 left k el pl) (side_row_is op r op.op.g2 right k er pr)

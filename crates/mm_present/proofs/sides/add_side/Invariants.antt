@@ -1,0 +1,10 @@
+use Rattle.std.proofs.Common.{◌≡◌, ◌≤◌, length, drop}
+use Rattle.mm_field.specs.Vectors.{combination}
+use Rattle.mm_present.specs.RowForm.{row_of}
+use Rattle.mm_present.proofs.sides.add_side.Given as goal
+
+abbrev pub invariant-loop-i : goal.invariant-loop-i
+invariant-loop-i l = record {
+  low : l.i ≤ length l.side.rows.rows;
+  out_is : l.out ≡ combination l.side.rows.f l.side.rows.cols (drop l.i (row_of l.side.digits.rows l.k)) (drop l.i l.side.rows.rows);
+}

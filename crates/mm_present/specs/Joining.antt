@@ -1,0 +1,55 @@
+-- The rows of a join by the boundary rows of its children, and of a node among all elements.
+use Rattle.std.specs.Prelude.{ℕ, ◌≡◌, List, ◌++◌, length, map}
+use Rattle.std.specs.List.{range_with_len}
+use Rattle.mm_field.specs.declared.Field.{Field}
+use Rattle.mm_field.specs.Vectors.{zeros, combination, AreVectors}
+use Rattle.mm_logic.specs.PresentMatrix.{columns, internal, internal_row}
+use Rattle.mm_logic.specs.Tree.{Tree, boundary}
+use Rattle.mm_matrix.specs.MatrixValue.{MatrixValue}
+use Rattle.mm_ops.specs.OpValue.{OpValue}
+use Rattle.mm_present.specs.RowForm.{row_of, first_rows, in_join}
+use Rattle.mm_present.specs.declared.sides.Side.{Side}
+
+-- a row with zeros before and after it
+abbrev pub widened : ℕ → ℕ → List ℕ → List ℕ
+widened before after row = zeros before ++ (row ++ zeros after)
+
+-- row k of a join at the elements of a child
+abbrev pub side_row : ℕ → Side → List ℕ
+side_row k side = combination side.rows.f side.rows.cols (row_of side.digits.rows k) side.rows.rows
+
+-- row k of a join
+abbrev pub join_row : Side → Side → ℕ → List ℕ
+join_row left right k = side_row k left ++ side_row k right
+
+-- the boundary rows of a tree
+unfoldable pub boundary_rows : Field → Tree → List (List ℕ)
+boundary_rows f T = first_rows (boundary T) (columns f T)
+
+-- the internal rows of a tree
+unfoldable pub internal_rows : Field → Tree → List (List ℕ)
+internal_rows f T = map (internal_row f T) (range_with_len 0 (internal T))
+
+-- the internal rows of a tree among the elements of a larger one
+abbrev pub placed_rows : Field → ℕ → ℕ → Tree → List (List ℕ)
+placed_rows f before after T = map (widened before after) (internal_rows f T)
+
+-- t rows over f
+pub record ArePart (f : Field) (t : ℕ) (m : MatrixValue) : Type 0 where
+  pub field : m.f ≡ f
+  pub count : length m.rows ≡ t
+  pub each : AreVectors f m.cols m.rows
+
+-- The boundary rows of a child of a join by an operator over f, and as many lists of r digits.
+pub record IsSide (f : Field) (r : ℕ) (side : Side) : Type 0 where
+  pub field : side.rows.f ≡ f
+  pub digits_field : side.digits.f ≡ f
+  pub width : side.digits.cols ≡ r
+  pub count : length side.digits.rows ≡ length side.rows.rows
+  pub each : AreVectors f side.rows.cols side.rows.rows
+
+-- row k of a join of children with these boundary rows
+abbrev pub joined_row : OpValue → MatrixValue → MatrixValue → ℕ → List ℕ
+joined_row op left right k =
+    combination op.f left.cols (row_of (in_join op.f op.op op.op.g1) k) left.rows
+    ++ combination op.f right.cols (row_of (in_join op.f op.op op.op.g2) k) right.rows

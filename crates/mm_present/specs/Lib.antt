@@ -1,0 +1,5 @@
+pub mod RowForm
+pub mod Comparing
+pub mod Bases
+pub mod Joining
+pub mod Ordering
