@@ -1,0 +1,116 @@
+-- What is written for an item goes on with the lines behind it.
+use Rattle.std.specs.Prelude.{◌≡◌, refl, ℕ, Bool, true, false, ◌&&◌, List, [], ◌∷◌, codes, Some, None, Ok, Err, IfOk, if◌then◌else◌}
+use Rattle.std.proofs.Common.{ap, sym, ◌∙◌}
+use Rattle.std.specs.declared.result.Result.{Result}
+use Rattle.std.specs.Str.{bytes_eq}
+use Rattle.std.proofs.lemmas.Slice.Eq.{bytes_eq-Decides}
+use Rattle.mm_field.specs.declared.Field.{Field}
+use Rattle.mm_lines.specs.LineBytes.{bytes_of}
+use Rattle.mm_lines.specs.Tokens.{tokens}
+use Rattle.mm_lines.specs.declared.line.Line.{Line}
+use Rattle.mm_lines.specs.declared.line.LineText.{LineText}
+use Rattle.mm_lines.specs.declared.line.LineText.TheVariants.{Whole, TooLong}
+use Rattle.mm_words.specs.Arguments.{begins, first_is, too_long}
+use Rattle.mm_words.specs.Readers.{Reading, Read}
+use Rattle.mm_words.specs.declared.refusal.Refusal.{Refusal}
+use Rattle.mm_job.specs.Blocks.{block_from, reply_of, told_rest, told_from}
+use Rattle.mm_job.specs.Edits.{Denied, block, check_end, check_names, check_rows, compared_or, is_same, single}
+use Rattle.mm_job.specs.Header.{Session}
+use Rattle.mm_job.specs.Items.{Rest, block_of, closes, items, opens, rest_of_block, after_line, Single}
+use Rattle.mm_present.specs.Comparing.{Named, compared}
+use Rattle.mm_job.specs.Output.{Ending, after_reply, reply_line, told_items}
+use Rattle.mm_job.specs.declared.block.Block.{Block}
+use Rattle.mm_job.specs.declared.block.Block.TheVariants as begun
+use Rattle.mm_job.specs.declared.said.Said.{Said}
+use Rattle.mm_job.specs.declared.said.Said.TheVariants.{Refuses, Says}
+
+-- ---- the end of a block
+
+first_of_both : (a b : Bool) → (a && b) ≡ true → a ≡ true
+first_of_both true b p = refl
+first_of_both false b p = p
+
+-- a line that begins with `end` begins with no other word
+other_word : (word : List ℕ) (ts : List (List ℕ)) → bytes_eq word (codes "end") ≡ false → first_is (codes "end") ts ≡ true → first_is word ts ≡ false
+other_word word [] no_end h = refl
+other_word word (t ∷ ts) no_end h = ap (bytes_eq word) (sym ((bytes_eq-Decides (codes "end") t).0 h)) ∙ no_end
+
+pub end_is_other : (word : List ℕ) (r : Line) → bytes_eq word (codes "end") ≡ false → closes r ≡ true → begins word r ≡ false
+end_is_other word r no_end h = other_word word (tokens (bytes_of r)) no_end (first_of_both (begins (codes "end") r) _ h)
+
+-- it is not too long
+text_is_short : (t : LineText) (n : ℕ) → first_is (codes "end") (tokens (bytes_of (record { number = n; text = t }))) ≡ true → too_long t n ≡ None
+unfolding tokens
+text_is_short (Whole bytes) n h = refl
+text_is_short TooLong n h = absurd (let e : false ≡ true = h in cc)
+
+pub end_is_short : (r : Line) → closes r ≡ true → too_long r.text r.number ≡ None
+end_is_short r h = text_is_short r.text r.number (first_of_both (begins (codes "end") r) _ h)
+
+pub rows_end : (f : Field) (names rows : List (List ℕ)) (r : Line) → closes r ≡ true → check_rows f names rows (r ∷ []) ≡ Read (record { names = names; rows = rows }) []
+unfolding check_rows check_end
+rows_end f names rows r h = rw (end_is_other (codes "row") r refl h) (rw (end_is_short r h) (rw h refl))
+
+pub names_end : (f : Field) (names : List (List ℕ)) (r : Line) → closes r ≡ true → check_names f names (r ∷ []) ≡ Read (record { names = names; rows = [] }) []
+unfolding check_names
+names_end f names r h = rw (end_is_other (codes "elements") r refl h) (rows_end f names [] r h)
+
+-- ---- steps
+
+-- a line that opens a block
+opened_rest : (e : Ending) (s : Session) (r : Line) (b : Block) (rest : Rest) → ((rs : List Line) → block s r rs ≡ block_from s b rs) → told_items e s (block_of r rest) ≡ told_rest e s b rest
+unfolding told_items
+opened_rest e s r b None h = refl
+opened_rest e s r b (Some rest) h = ap (λ reply. reply_line reply ∷ told_items e (after_reply s reply) rest.1) (h rest.0)
+
+pub opened : (e : Ending) (s : Session) (r : Line) (b : Block) (rs : List Line) → opens r ≡ true → ((rs : List Line) → block s r rs ≡ block_from s b rs)
+    → told_from e s None (r ∷ rs) ≡ told_from e s (Some b) rs
+unfolding items
+opened e s r b rs h same = ap (λ (c : Bool). told_items e s (if c then block_of r (rest_of_block rs) else Single r (items rs))) h ∙ opened_rest e s r b (rest_of_block rs) same
+
+-- an item of one line
+pub refused_item : (e : Ending) (s : Session) (r : Line) (why : Refusal) (rs : List Line) → opens r ≡ false → single s r ≡ Denied why
+    → told_from e s None (r ∷ rs) ≡ Refuses why ∷ told_from e s None rs
+unfolding items told_items
+refused_item e s r why rs h denied =
+    ap (λ (c : Bool). told_items e s (if c then block_of r (rest_of_block rs) else Single r (items rs))) h
+    ∙ ap (λ reply. reply_line reply ∷ told_items e (after_reply s reply) (items rs)) denied
+
+-- a line inside a block
+inside_rest : (e : Ending) (s : Session) (r : Line) (b new : Block) (rest : Rest) → ((rs : List Line) → block_from s b (r ∷ rs) ≡ block_from s new rs) → told_rest e s b (after_line r rest) ≡ told_rest e s new rest
+inside_rest e s r b new None h = refl
+inside_rest e s r b new (Some rest) h = ap (λ reply. reply_line reply ∷ told_items e (after_reply s reply) rest.1) (h rest.0)
+
+pub inside : (e : Ending) (s : Session) (r : Line) (b new : Block) (rs : List Line) → closes r ≡ false → ((rs : List Line) → block_from s b (r ∷ rs) ≡ block_from s new rs)
+    → told_from e s (Some b) (r ∷ rs) ≡ told_from e s (Some new) rs
+unfolding rest_of_block
+inside e s r b new rs h same =
+    ap (λ (c : Bool). told_rest e s b (if c then Some (r ∷ [], items rs) else after_line r (rest_of_block rs))) h ∙ inside_rest e s r b new (rest_of_block rs) same
+
+-- the end of a block
+unchanged : (s : Session) (o : Result Bool Refusal) → after_reply s (compared_or o) ≡ s
+unchanged s (Ok same) = refl
+unchanged s (Err e) = refl
+
+block_unchanged : (s : Session) (b : Block) (rs : List Line) → after_reply s (block_from s b rs) ≡ s
+block_unchanged s (begun.Denied e) rs = refl
+block_unchanged s (begun.Names names) rs = unchanged s _
+block_unchanged s (begun.Rows given) rs = unchanged s _
+
+pub ended : (e : Ending) (s : Session) (r : Line) (b : Block) (said : Said) (rs : List Line) → closes r ≡ true → said ≡ reply_line (block_from s b (r ∷ []))
+    → told_from e s (Some b) (r ∷ rs) ≡ said ∷ told_from e s None rs
+unfolding rest_of_block
+ended e s r b said rs h is =
+    ap (λ (c : Bool). told_rest e s b (if c then Some (r ∷ [], items rs) else after_line r (rest_of_block rs))) h
+    ∙ ap (λ (t : Session). reply_line (block_from s b (r ∷ [])) ∷ told_items e t (items rs)) (block_unchanged s b (r ∷ []))
+    ∙ ap (λ (x : Said). x ∷ told_items e s (items rs)) (sym is)
+
+-- ---- the reply of a check
+
+pub reply_same : (s : Session) (given : Named) (said : Said) (reading : Reading Named) → reading ≡ Read given []
+    → said ≡ Says (if is_same (compared s.f given s.tree) then codes "same" else codes "differs") → said ≡ reply_line (reply_of s reading)
+reply_same s given said reading r is = rw r is
+
+pub on_ok : {X E : Type 0} (P Q : X → Type 0) (r : Result X E) → ((x : X) → P x → Q x) → IfOk r P → IfOk r Q
+on_ok P Q (Ok x) f p = f x p
+on_ok P Q (Err e) f p = tt

@@ -1,0 +1,150 @@
+-- A step of a job goes on with what it was fed.
+use Rattle.std.proofs.Common.{◌≡◌, ℕ, zero, suc, ◌+◌, ◌<◌, ◌≤◌, List, [], ◌∷◌, ◌++◌, length, drop, Option, Some, None, refl, sym, ap, ◌∙◌, subst, arith}
+use Rattle.std.specs.Prelude.{OnErr, Ok, Err}
+use Rattle.std.specs.List.{slice_get}
+use Rattle.std.specs.declared.result.Result.{Result}
+use Rattle.std.specs.Io.KnownBytes.{Appends}
+use Rattle.std.proofs.KnownBytes.{Appends-nil, Appends-trans}
+use Rattle.std.proofs.lemmas.List.{append_assoc, append-nil, length-drop}
+use Rattle.std.proofs.lemmas.Option.{none-some, same_Some}
+use Rattle.std.proofs.lemmas.Grind.{flat_map-append}
+use Rattle.mm_base.specs.Causes.{GrowsByFront, Rose}
+use Rattle.mm_base.proofs.FrontLaws.{front_after, front_more}
+use Rattle.mm_base.specs.declared.status.Status.{Status}
+use Rattle.mm_lines.specs.declared.line.Line.{Line}
+use Rattle.mm_lines.specs.Lines.{lines_of}
+use Rattle.mm_lines.specs.Streams.{Stream, next_of, after_line}
+use Rattle.mm_job.specs.Courses.{after_said, come_to}
+use Rattle.mm_job.specs.Feeding.{Fed, IsWithin, left}
+use Rattle.mm_job.specs.Jobs.{HasJobCause}
+use Rattle.mm_job.specs.Output.{Ending, printed, printed_all}
+use Rattle.mm_job.specs.Stages.{told_by}
+use Rattle.mm_job.specs.declared.course.Course.{Course}
+use Rattle.mm_job.specs.declared.progress.JobFault.{JobFault}
+use Rattle.mm_job.specs.declared.said.Said.{Said}
+
+-- ---- the lines that are left
+
+next_left : {A : Type 0} (xs : List A) (i : ℕ) (x : A) → slice_get xs i ≡ Some x → drop i xs ≡ x ∷ drop (i + 1) xs
+next_left [] i x h = absurd (none-some x h)
+next_left (y ∷ xs) zero x h = ap (λ z. z ∷ xs) (same_Some y x h)
+next_left (y ∷ xs) (suc i) x h = next_left xs i x h ∙ ap (λ (k : ℕ). x ∷ drop k (y ∷ xs)) {x = suc (i + 1)} {y = suc i + 1} (omega arith)
+
+none_left : {A : Type 0} (xs : List A) (i : ℕ) → slice_get xs i ≡ None → drop i xs ≡ []
+none_left [] zero h = refl
+none_left [] (suc i) h = refl
+none_left (y ∷ xs) zero h = absurd (none-some y (sym h))
+none_left (y ∷ xs) (suc i) h = none_left xs i h
+
+pub line_left : (s new : Stream) (o : Option Line) (r : Line) → o ≡ next_of s → new ≡ after_line o s → o ≡ Some r → left s ≡ r ∷ left new
+line_left s new o r is handed some =
+    let n : new ≡ record s { handed = s.handed + 1 } = handed ∙ ap (λ (p : Option Line). after_line p s) some in
+    next_left (lines_of s.ended s.bytes) s.handed r (sym is ∙ some) ∙ ap (λ (t : Stream). r ∷ left t) (sym n)
+
+pub all_left : (s new : Stream) (o : Option Line) → o ≡ next_of s → new ≡ after_line o s → o ≡ None → (left s ≡ []) × (left new ≡ [])
+all_left s new o is handed none =
+    let n : new ≡ s = handed ∙ ap (λ (p : Option Line). after_line p s) none in
+    let empty : left s ≡ [] = none_left (lines_of s.ended s.bytes) s.handed (sym is ∙ none) in
+    (empty, ap (λ (t : Stream). left t) n ∙ empty)
+
+pub shorter : (s new : Stream) (r : Line) → left s ≡ r ∷ left new → length (left new) < length (left s)
+shorter s new r h = omega (arith, ap length h)
+
+some_within : {A : Type 0} (xs : List A) (i : ℕ) (x : A) → drop i xs ≡ x ∷ drop (i + 1) xs → i + 1 ≤ length xs
+some_within xs i x h = omega (arith, ap length h, length-drop i xs)
+
+pub still_within : (s new : Stream) (o p : Option Line) → p ≡ o → o ≡ next_of s → new ≡ after_line o s → IsWithin s → IsWithin new
+still_within s new o None same is handed h = subst IsWithin (sym (handed ∙ ap (λ (p : Option Line). after_line p s) (sym same))) h
+still_within s new o (Some r) same is handed h =
+    subst IsWithin (sym (handed ∙ ap (λ (p : Option Line). after_line p s) (sym same)))
+    (some_within (lines_of s.ended s.bytes) s.handed r (next_left (lines_of s.ended s.bytes) s.handed r (sym is ∙ sym same)))
+
+-- ---- what lines come to
+
+pub come_on : (status : Option Status) (xs ys : List Said) → come_to status (xs ++ ys) ≡ come_to (come_to status xs) ys
+come_on status [] ys = refl
+come_on status (x ∷ xs) ys = come_on (after_said status x) xs ys
+
+-- ---- steps
+
+pub nothing_written : (held : Option (List ℕ)) (bs : List ℕ) → GrowsByFront held held bs
+nothing_written held bs = (0, Appends-nil held)
+
+-- the lines are the same ones
+pub fed_same : (limit : ℕ) (course : Course) (lines lines_now : List Line) (held : Option (List ℕ)) → lines ≡ [] → lines_now ≡ [] → Fed limit course course lines lines_now held held
+fed_same limit course lines lines_now held p q =
+    record { said = []; grew = Appends-nil held; same = λ e rs. ap (λ (l : List Line). told_by limit course.stage e (l ++ rs)) (p ∙ sym q); comes = refl }
+
+pub fed_nothing : (limit : ℕ) (course : Course) (lines : List Line) (held : Option (List ℕ)) → Fed limit course course lines lines held held
+fed_nothing limit course lines held = record { said = []; grew = Appends-nil held; same = λ e rs. refl; comes = refl }
+
+printed_on : (held held_new : Option (List ℕ)) (xs ys : List Said) → Appends held held_new (printed_all xs ++ printed_all ys) → Appends held held_new (printed_all (xs ++ ys))
+printed_on held held_new xs ys h = subst (λ (l : List ℕ). Appends held held_new l) (sym (flat_map-append printed xs ys)) h
+
+-- one step and more
+pub fed_trans : (limit : ℕ) (a b c : Course) (lines lines_now lines_after : List Line) (held held_now held_after : Option (List ℕ))
+    → Fed limit a b lines lines_now held held_now → Fed limit b c lines_now lines_after held_now held_after → Fed limit a c lines lines_after held held_after
+fed_trans limit a b c lines lines_now lines_after held held_now held_after p q =
+    record {
+      said = p.said ++ q.said;
+      grew = printed_on held held_after p.said q.said (Appends-trans held held_now held_after (printed_all p.said) (printed_all q.said) p.grew q.grew);
+      same = λ e rs. p.same e rs ∙ ap (λ (l : List Said). p.said ++ l) (q.same e rs) ∙ sym (append_assoc p.said q.said (told_by limit c.stage e (lines_after ++ rs)));
+      comes = q.comes ∙ ap (λ (s : Option Status). come_to s q.said) p.comes ∙ sym (come_on a.status p.said q.said);
+    }
+
+-- a line was taken, and what is said of it was written
+pub fed_line : (limit : ℕ) (old new : Course) (r : Line) (rs : List Line) (said : List Said) (held held_new : Option (List ℕ))
+    → ((e : Ending) (rs : List Line) → told_by limit old.stage e (r ∷ rs) ≡ said ++ told_by limit new.stage e rs)
+    → Appends held held_new (printed_all said) → new.status ≡ come_to old.status said → Fed limit old new (r ∷ rs) rs held held_new
+fed_line limit old new r rs said held held_new step grew comes =
+    record { said = said; grew = grew; same = λ e more. step e (rs ++ more); comes = comes }
+
+-- what is told of the lines is what is said of the first of them and what is told behind it
+told_on : (limit : ℕ) (old new : Course) (lines lines_now : List Line) (held held_now : Option (List ℕ)) → (fed : Fed limit old new lines lines_now held held_now)
+    → (e : Ending) → printed_all (told_by limit old.stage e lines) ≡ printed_all fed.said ++ printed_all (told_by limit new.stage e lines_now)
+told_on limit old new lines lines_now held held_now fed e =
+    ap (λ (l : List Line). printed_all (told_by limit old.stage e l)) (sym (append-nil lines)) ∙ ap printed_all (fed.same e [])
+    ∙ ap (λ (l : List Line). printed_all (fed.said ++ told_by limit new.stage e l)) (append-nil lines_now) ∙ flat_map-append printed fed.said (told_by limit new.stage e lines_now)
+
+-- what was written before, and a front of what is told then
+pub front_behind : (limit : ℕ) (old new : Course) (lines lines_now : List Line) (held held_now held_after : Option (List ℕ)) → Fed limit old new lines lines_now held held_now
+    → ((e : Ending) → GrowsByFront held_now held_after (printed_all (told_by limit new.stage e lines_now)))
+    → (e : Ending) → GrowsByFront held held_after (printed_all (told_by limit old.stage e lines))
+front_behind limit old new lines lines_now held held_now held_after fed grew e =
+    subst (λ (l : List ℕ). GrowsByFront held held_after l) (sym (told_on limit old new lines lines_now held held_now fed e))
+    (front_after held held_now held_after (printed_all fed.said) (printed_all (told_by limit new.stage e lines_now)) fed.grew (grew e))
+
+-- a front of what is said of a line was written
+pub front_line : (limit : ℕ) (old new : Course) (r : Line) (said : List Said) (held held_new : Option (List ℕ))
+    → ((e : Ending) (rs : List Line) → told_by limit old.stage e (r ∷ rs) ≡ said ++ told_by limit new.stage e rs)
+    → GrowsByFront held held_new (printed_all said) → (e : Ending) (rs : List Line) → GrowsByFront held held_new (printed_all (told_by limit old.stage e (r ∷ rs)))
+front_line limit old new r said held held_new step grew e rs =
+    subst (λ (l : List ℕ). GrowsByFront held held_new l) (sym (ap printed_all (step e rs) ∙ flat_map-append printed said (told_by limit new.stage e rs)))
+    (front_more held held_new (printed_all said) (printed_all (told_by limit new.stage e rs)) grew)
+
+-- what holds anyway holds of an error
+pub on_err : {X E P : Type 0} (r : Result X E) → P → OnErr r P
+on_err (Ok x) p = tt
+on_err (Err e) p = p
+
+-- ---- causes
+
+rose_before : (a b c : ℕ) → a ≤ b → Rose b c → Rose a c
+rose_before a b c h r = omega (arith, h, r)
+
+pub cause_behind : {T : Type 0} (a b c : ℕ) (r : Result T JobFault) → a ≤ b → HasJobCause b c r → HasJobCause a c r
+cause_behind a b c r h cause = record { later = omega (arith, h, cause.later); failed = λ f. rose_before a b c h (cause.failed f) }
+
+pub cause_ok : {T : Type 0} (a b c : ℕ) (x : T) → a ≤ b → b ≤ c → HasJobCause a c (Ok x)
+cause_ok a b c x h k = record { later = omega (arith, h, k); failed = λ f. absurd (cc) }
+
+-- ---- the first of the lines that are left
+
+pub front_left : (limit : ℕ) (course : Course) (held held_new : Option (List ℕ)) (all : List Line) (r : Line) (rs : List Line) → all ≡ r ∷ rs
+    → ((e : Ending) (rs : List Line) → GrowsByFront held held_new (printed_all (told_by limit course.stage e (r ∷ rs))))
+    → (e : Ending) → GrowsByFront held held_new (printed_all (told_by limit course.stage e all))
+front_left limit course held held_new all r rs is h e = subst (λ (l : List Line). GrowsByFront held held_new (printed_all (told_by limit course.stage e l))) (sym is) (h e rs)
+
+pub fed_left : (limit : ℕ) (old new : Course) (held held_new : Option (List ℕ)) (all : List Line) (r : Line) (rs : List Line) → all ≡ r ∷ rs
+    → ((rs : List Line) → Fed limit old new (r ∷ rs) rs held held_new) → Fed limit old new all rs held held_new
+fed_left limit old new held held_new all r rs is h = subst (λ (l : List Line). Fed limit old new l rs held held_new) (sym is) (h rs)

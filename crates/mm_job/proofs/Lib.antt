@@ -1,0 +1,12 @@
+pub mod HeaderLaws
+pub mod ItemLaws
+pub mod GrowthLaws
+pub mod FormulaLaws
+pub mod BlockLaws
+pub mod TruthLaws
+pub mod FeedLaws
+pub mod BuildLaws
+pub mod KeptLaws
+pub mod EndLaws
+pub mod StandingLaws
+pub mod JobLaws

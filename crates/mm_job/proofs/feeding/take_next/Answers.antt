@@ -1,0 +1,41 @@
+use Rattle.std.proofs.Common.{sym}
+use Rattle.std.specs.Prelude.{None, Some}
+use Rattle.mm_job.specs.Feeding.{left}
+use Rattle.mm_job.proofs.FeedLaws.{all_left, fed_left, front_left, line_left, on_err, shorter, still_within}
+use Rattle.mm_job.proofs.feeding.take_next.Goals as goal
+
+pub returns-in_default-clause-all : goal.returns-in_default-clause-all
+returns-in_default-clause-all g c = λ no_more.
+    (all_left c.args.framer.now c.next_line.new.self c.in_ok-line.field-0 c.in_ok-line.ensures.line c.in_ok-line.ensures.handed c.in_default.is).1
+
+pub returns-in_default-clause-within : goal.returns-in_default-clause-within
+returns-in_default-clause-within g c =
+    still_within c.args.framer.now c.next_line.new.self c.in_ok-line.field-0 None (sym c.in_default.is) c.in_ok-line.ensures.line c.in_ok-line.ensures.handed c.requires.within
+
+pub returns-in_err-course-clause-front : goal.returns-in_err-course-clause-front
+returns-in_err-course-clause-front g c =
+    let held = g.K.Sink.held in
+    on_err c.from_residual-in_err-course.result
+    (front_left c.args.limit c.args.course (held c.args.out.now) (held c.take_written.new.out) (left c.args.framer.now) c.in-Some.line (left c.next_line.new.self)
+    (line_left c.args.framer.now c.next_line.new.self c.in_ok-line.field-0 c.in-Some.line c.in_ok-line.ensures.line c.in_ok-line.ensures.handed c.in-Some.is)
+    c.in_err-course.ensures.front)
+
+pub returns-in_err-course-clause-within : goal.returns-in_err-course-clause-within
+returns-in_err-course-clause-within g c =
+    still_within c.args.framer.now c.next_line.new.self c.in_ok-line.field-0 (Some c.in-Some.line) (sym c.in-Some.is) c.in_ok-line.ensures.line c.in_ok-line.ensures.handed c.requires.within
+
+pub returns-clause-fed : goal.returns-clause-fed
+returns-clause-fed g c =
+    let held = g.K.Sink.held in
+    fed_left c.args.limit c.args.course c.in_ok-course.course (held c.args.out.now) (held c.take_written.new.out) (left c.args.framer.now) c.in-Some.line (left c.next_line.new.self)
+    (line_left c.args.framer.now c.next_line.new.self c.in_ok-line.field-0 c.in-Some.line c.in_ok-line.ensures.line c.in_ok-line.ensures.handed c.in-Some.is)
+    c.in_ok-course.ensures.fed
+
+pub returns-clause-more : goal.returns-clause-more
+returns-clause-more g c = λ more.
+    shorter c.args.framer.now c.next_line.new.self c.in-Some.line
+    (line_left c.args.framer.now c.next_line.new.self c.in_ok-line.field-0 c.in-Some.line c.in_ok-line.ensures.line c.in_ok-line.ensures.handed c.in-Some.is)
+
+pub returns-clause-within : goal.returns-clause-within
+returns-clause-within g c =
+    still_within c.args.framer.now c.next_line.new.self c.in_ok-line.field-0 (Some c.in-Some.line) (sym c.in-Some.is) c.in_ok-line.ensures.line c.in_ok-line.ensures.handed c.requires.within

@@ -1,0 +1,74 @@
+use Rattle.std.proofs.Common.{ℕ, ◌-◌, ◌<◌, ◌≤◌, List, ◌++◌, length, take, ap, sym, subst, ◌∙◌, arith}
+use Rattle.mm_lines.specs.Lines.{most_bytes, settled}
+use Rattle.mm_job.specs.Jobs.{Grew, GrewByFront, progress, with_piece}
+use Rattle.mm_job.specs.Output.{Over, settled_output, status_of, told}
+use Rattle.mm_job.specs.Standing.{written_at}
+use Rattle.mm_job.specs.declared.progress.Progress.TheVariants.{Ended}
+use Rattle.mm_job.proofs.JobLaws.{err_as, fits, last_output, last_progress, ok_as, room_of, value_as}
+use Rattle.mm_job.proofs.job.Job.feed.Goals as goal
+
+pub returns-then-piece-room-clause-progress : goal.returns-then-piece-room-clause-progress
+returns-then-piece-room-clause-progress g c =
+    let s = c.args.self.now in
+    let piece = c.args.piece.now in
+    let room = most_bytes - c.self.inside.taken in
+    let long : room < length piece = omega (arith, c.if-piece-room.true) in
+    value_as (Ended (status_of (told s.limit Over (settled (s.text ++ take room piece))))) (progress (with_piece s.text piece) s.limit) c.feed_last.result
+    (last_progress s room piece (room_of c.self.inside s c.self.view_is c.requires.live c.self.invariant) long) c.feed_last.ensures.progress
+
+pub returns-then-piece-room-clause-wrote : goal.returns-then-piece-room-clause-wrote
+returns-then-piece-room-clause-wrote g c =
+    let s = c.args.self.now in
+    let piece = c.args.piece.now in
+    let room = most_bytes - c.self.inside.taken in
+    let long : room < length piece = omega (arith, c.if-piece-room.true) in
+    let R : List ℕ → Type 0 = λ l. Grew (g.K.Sink.held c.args.out.now) (g.K.Sink.held c.feed_last.new.out) (settled_output s.text s.limit) l in
+    ok_as (R (written_at Over s.limit (s.text ++ take room piece))) (R (settled_output (with_piece s.text piece) s.limit)) c.feed_last.result
+    (subst R (last_output s room piece (room_of c.self.inside s c.self.view_is c.requires.live c.self.invariant) long)) c.feed_last.ensures.wrote
+
+pub returns-then-piece-room-clause-front : goal.returns-then-piece-room-clause-front
+returns-then-piece-room-clause-front g c =
+    let s = c.args.self.now in
+    let piece = c.args.piece.now in
+    let room = most_bytes - c.self.inside.taken in
+    let long : room < length piece = omega (arith, c.if-piece-room.true) in
+    let R : List ℕ → Type 0 = λ l. GrewByFront (g.K.Sink.held c.args.out.now) (g.K.Sink.held c.feed_last.new.out) (settled_output s.text s.limit) l in
+    err_as (R (written_at Over s.limit (s.text ++ take room piece))) (R (settled_output (with_piece s.text piece) s.limit)) c.feed_last.result
+    (subst R (last_output s room piece (room_of c.self.inside s c.self.view_is c.requires.live c.self.invariant) long)) c.feed_last.ensures.front
+
+pub returns-else-piece-room-clause-progress : goal.returns-else-piece-room-clause-progress
+returns-else-piece-room-clause-progress g c =
+    let s = c.args.self.now in
+    let piece = c.args.piece.now in
+    let room = most_bytes - c.self.inside.taken in
+    let short : length piece ≤ room = omega (arith, c.if-piece-room.false) in
+    value_as (progress (s.text ++ piece) s.limit) (progress (with_piece s.text piece) s.limit) c.feed_all.result
+    (ap (λ (l : List ℕ). progress l s.limit) (sym (fits s room piece (room_of c.self.inside s c.self.view_is c.requires.live c.self.invariant) short))) c.feed_all.ensures.progress
+
+pub returns-else-piece-room-clause-text : goal.returns-else-piece-room-clause-text
+returns-else-piece-room-clause-text g c = λ more.
+    let s = c.args.self.now in
+    let piece = c.args.piece.now in
+    let room = most_bytes - c.self.inside.taken in
+    let short : length piece ≤ room = omega (arith, c.if-piece-room.false) in
+    c.feed_all.ensures.text more ∙ sym (fits s room piece (room_of c.self.inside s c.self.view_is c.requires.live c.self.invariant) short)
+
+pub returns-else-piece-room-clause-wrote : goal.returns-else-piece-room-clause-wrote
+returns-else-piece-room-clause-wrote g c =
+    let s = c.args.self.now in
+    let piece = c.args.piece.now in
+    let room = most_bytes - c.self.inside.taken in
+    let short : length piece ≤ room = omega (arith, c.if-piece-room.false) in
+    let R : List ℕ → Type 0 = λ l. Grew (g.K.Sink.held c.args.out.now) (g.K.Sink.held c.feed_all.new.out) (settled_output s.text s.limit) (settled_output l s.limit) in
+    ok_as (R (s.text ++ piece)) (R (with_piece s.text piece)) c.feed_all.result
+    (subst R (sym (fits s room piece (room_of c.self.inside s c.self.view_is c.requires.live c.self.invariant) short))) c.feed_all.ensures.wrote
+
+pub returns-else-piece-room-clause-front : goal.returns-else-piece-room-clause-front
+returns-else-piece-room-clause-front g c =
+    let s = c.args.self.now in
+    let piece = c.args.piece.now in
+    let room = most_bytes - c.self.inside.taken in
+    let short : length piece ≤ room = omega (arith, c.if-piece-room.false) in
+    let R : List ℕ → Type 0 = λ l. GrewByFront (g.K.Sink.held c.args.out.now) (g.K.Sink.held c.feed_all.new.out) (settled_output s.text s.limit) (settled_output l s.limit) in
+    err_as (R (s.text ++ piece)) (R (with_piece s.text piece)) c.feed_all.result
+    (subst R (sym (fits s room piece (room_of c.self.inside s c.self.view_is c.requires.live c.self.invariant) short))) c.feed_all.ensures.front

@@ -1,0 +1,5 @@
+use Rattle.mm_job.proofs.GrowthLaws.{refused_is_final}
+use Rattle.mm_job.proofs.laws.a_refused_header_ends_a_job.Goals as goal
+
+pub returns : goal.returns
+returns c = refused_is_final

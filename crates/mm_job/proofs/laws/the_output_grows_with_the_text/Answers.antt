@@ -1,0 +1,5 @@
+use Rattle.mm_job.proofs.GrowthLaws.{output_grows}
+use Rattle.mm_job.proofs.laws.the_output_grows_with_the_text.Goals as goal
+
+pub returns : goal.returns
+returns c = output_grows

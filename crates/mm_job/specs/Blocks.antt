@@ -1,0 +1,52 @@
+-- What the state between and inside the items of a job makes of the lines that are left.
+use Rattle.std.specs.Prelude.{List, [], ◌∷◌, Option, Some, None, Ok}
+use Rattle.std.specs.List.{IsDistinct}
+use Rattle.std.specs.Str.{bytes_eq}
+use Rattle.mm_field.specs.declared.Field.{Field}
+use Rattle.mm_job.specs.Edits.{Reply, Denied, check_names, check_rows, compared_or, is_same, read_whole}
+use Rattle.mm_job.specs.Header.{Session}
+use Rattle.mm_job.specs.Items.{Rest, items, rest_of_block}
+use Rattle.mm_present.specs.Comparing.{Named, compared}
+use Rattle.mm_job.specs.Output.{Ending, after_reply, cut_short, reply_line, told_items}
+use Rattle.mm_job.specs.Heads.{IsMatrix}
+use Rattle.mm_job.specs.declared.block.Block.{Block}
+use Rattle.mm_job.specs.declared.block.Block.TheVariants as begun
+use Rattle.mm_job.specs.declared.said.Said.{Said}
+use Rattle.mm_lines.specs.declared.line.Line.{Line}
+use Rattle.mm_words.specs.Demands.{◌>>=◌}
+use Rattle.mm_words.specs.Readers.{Reading}
+
+-- The reply of a check that was read.
+abbrev pub reply_of : Session → Reading Named → Reply
+reply_of s given = compared_or (read_whole given >>= λ named. Ok (is_same (compared s.f named s.tree)))
+
+-- The reply of a block that has begun, by the rest of its lines.
+abbrev pub block_from : Session → Block → List Line → Reply
+block_from s (begun.Denied e) rs = Denied e
+block_from s (begun.Names names) rs = reply_of s (check_names s.f names rs)
+block_from s (begun.Rows given) rs = reply_of s (check_rows s.f given.names given.rows.rows rs)
+
+-- The names of a check that has begun are different, and its rows are over the field and the names.
+abbrev pub IsBegun : Field → Block → Type 0
+IsBegun f (begun.Names names) = IsDistinct bytes_eq names
+IsBegun f (begun.Rows given) = IsMatrix f given
+IsBegun f b = Unit {0}
+
+abbrev pub AreBegun : Field → Option Block → Type 0
+AreBegun f None = Unit {0}
+AreBegun f (Some b) = IsBegun f b
+
+-- What is written for a block that has begun, and for the items behind it.
+abbrev pub told_rest : Ending → Session → Block → Rest → List Said
+told_rest e s b None = cut_short e
+told_rest e s b (Some rest) = reply_line (block_from s b rest.0) ∷ told_items e (after_reply s (block_from s b rest.0)) rest.1
+
+-- What is written for the lines that are left, where a block has begun or not.
+abbrev pub told_from : Ending → Session → Option Block → List Line → List Said
+told_from e s None rs = told_items e s (items rs)
+told_from e s (Some b) rs = told_rest e s b (rest_of_block rs)
+
+-- The line that a step writes, if it writes one.
+abbrev pub written : Option Said → List Said
+written None = []
+written (Some said) = said ∷ []

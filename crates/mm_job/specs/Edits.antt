@@ -1,0 +1,161 @@
+-- What each item of a job does: the tree after it, or its verdict, or the first of its refusals.
+use Rattle.std.specs.Prelude.{ℕ, ◌+◌, ◌-◌, ℤ, nat_abs, Bool, true, false, nat_le, List, [], length, take, codes, Option, Some, None, Ok, Err, find, if◌then◌else◌, ◌==◌}
+use Rattle.std.specs.declared.result.Result.{Result}
+use Rattle.mm_base.specs.Names.{is_name}
+use Rattle.mm_field.specs.declared.Field.{Field}
+use Rattle.mm_job.specs.Header.{Session}
+use Rattle.mm_present.specs.Comparing.{Named, compared}
+use Rattle.mm_present.specs.declared.verdict.Verdict.{Verdict}
+use Rattle.mm_present.specs.declared.verdict.Verdict.TheVariants as verdict
+use Rattle.mm_job.specs.NotBuilt.{not_built, may_be_over, over_limit}
+use Rattle.mm_lines.specs.Numbers.{u32_of, i64_of}
+use Rattle.mm_lines.specs.declared.line.Line.{Line}
+use Rattle.mm_tree.specs.NamedTree.{Tree, boundary, depth, leaf_names, element_names, is_one_of, nodes}
+use Rattle.mm_tree.specs.ValidTree.{most_leaves, most_depth, most_weight}
+use Rattle.mm_tree.specs.Ways.{Way, way_to, node_at, with_node, names_outside, with_weight}
+use Rattle.mm_words.specs.Arguments.{args, begins, is_word, two_of}
+use Rattle.mm_words.specs.Demands.{◌>>=◌, ◌>>◌, demand, found, within}
+use Rattle.mm_words.specs.HeaderLines.{elements_line, row_line}
+use Rattle.mm_words.specs.Readers.{Reading, Read, Refused, Short, each, line, whole}
+use Rattle.mm_words.specs.Readers.{◌>>=◌ as ◌>>>=◌}
+use Rattle.mm_words.specs.TreeLines.{tree_lines}
+use Rattle.mm_words.specs.declared.refusal.Limit.TheVariants as limit
+use Rattle.mm_words.specs.declared.refusal.Refusal.{Refusal}
+use Rattle.mm_words.specs.declared.refusal.Refusal.TheVariants as refusal
+
+-- An edit that the present tree allows: the tree after it, and its cost.
+pub record Applied : Type 0 where
+  pub tree : Tree
+  pub cost : ℕ
+
+-- ---- `weight NAME WEIGHT`
+
+-- The name and the weight that the line gives.
+unfoldable pub weight_words : Line → Result (List ℕ × ℤ) Refusal
+weight_words r = do
+  t ← found (two_of (args r)) (refusal.Syntax r.number)
+  demand (is_name t.0) (refusal.Syntax r.number)
+  weight ← found (i64_of t.1) (refusal.Syntax r.number)
+  Ok (t.0, weight)
+
+-- A new weight of an element.
+unfoldable pub weight_change : Tree → ℕ → List ℕ → ℤ → Result Applied Refusal
+weight_change tree n name weight = do
+  within (nat_abs weight) most_weight limit.Weight n
+  demand (is_one_of name (element_names tree)) (refusal.Unknown name)
+  way ← found (way_to name tree) (refusal.Unknown name)
+  Ok (record { tree = with_weight name weight tree; cost = length way + 1 })
+
+unfoldable pub weight_edit : Session → Line → Result Applied Refusal
+weight_edit s r = do
+  w ← weight_words r
+  not_built (weight_change s.tree r.number w.0 w.1)
+
+-- ---- `replace NAME UP`, and the lines of its block
+
+-- What a reader made of a block's lines. Their `end` is among them, so they are not too few.
+abbrev pub read_whole : {A : Type 0} → Reading A → Result A Refusal
+read_whole (Read x rest) = Ok x
+read_whole (Refused e) = Err e
+read_whole Short = Err refusal.Unfinished
+
+abbrev pub none_taken : Option (List ℕ) → Result (Unit {0}) Refusal
+none_taken None = Ok tt
+none_taken (Some name) = Err (refusal.Taken name)
+
+-- The name and the number that the line gives.
+unfoldable pub replace_words : Line → Result (List ℕ × ℕ) Refusal
+replace_words r = do
+  t ← found (two_of (args r)) (refusal.Syntax r.number)
+  demand (is_name t.0) (refusal.Syntax r.number)
+  up ← found (u32_of t.1) (refusal.Syntax r.number)
+  Ok (t.0, up)
+
+-- The way to the node so many steps above the leaf of a name.
+unfoldable pub way_above : Tree → List ℕ → ℕ → Result Way Refusal
+way_above tree name up = do
+  way ← found (way_to name tree) (refusal.Unknown name)
+  demand (nat_le up (length way)) (refusal.NoNode name up)
+  Ok (take (length way - up) way)
+
+-- The tree with the node at the end of a way exchanged, by a block whose `end` has this number.
+unfoldable pub exchanged : Tree → Way → Tree → ℕ → Result Applied Refusal
+exchanged tree way new n = do
+  demand (boundary (node_at tree way) == boundary new) (refusal.Boundary (boundary (node_at tree way)) (boundary new))
+  none_taken (find (λ name. is_one_of name (names_outside tree way)) (leaf_names new))
+  within (length (leaf_names (with_node tree way new))) most_leaves limit.Leaves n
+  within (depth (with_node tree way new)) most_depth limit.Depth n
+  Ok (record { tree = with_node tree way new; cost = length way + nodes new })
+
+-- A new subtree for the node so many steps above a leaf, by the lines of its block.
+unfoldable pub replacement : Session → List ℕ → ℕ → List Line → Result Applied Refusal
+replacement s name up rs = do
+  way ← way_above s.tree name up
+  new ← read_whole (tree_lines s.f s.ops [] rs)
+  exchanged s.tree way new.0 new.1
+
+unfoldable pub replace_edit : Session → Line → List Line → Result Applied Refusal
+replace_edit s r rs = do
+  w ← replace_words r
+  not_built (replacement s w.0 w.1 rs)
+
+-- ---- `check`, and the lines of its block
+
+unfoldable pub check_end : Line → Result (Unit {0}) Refusal
+check_end r = demand (is_word (codes "end") r) (refusal.Syntax r.number)
+
+-- The `row` lines of a check behind these names and rows, and its `end`.
+unfoldable pub check_rows : Field → List (List ℕ) → List (List ℕ) → List Line → Reading Named
+check_rows f names rows = each (begins (codes "row")) (row_line f (length names)) rows >>>= λ rows.
+    line check_end >>>= λ u rest.
+    Read (record { names = names; rows = rows }) rest
+
+-- The `elements` and `row` lines of a check behind these names, and its `end`.
+unfoldable pub check_names : Field → List (List ℕ) → List Line → Reading Named
+check_names f names = each (begins (codes "elements")) elements_line names >>>= λ names. check_rows f names []
+
+abbrev pub is_same : Verdict → Bool
+is_same verdict.Same = true
+is_same v = false
+
+-- The first line of a check has no arguments.
+unfoldable pub check_words : Line → Result (Unit {0}) Refusal
+check_words r = demand (length (args r) == 0) (refusal.Syntax r.number)
+
+-- Whether the given rows agree with the present tree.
+unfoldable pub checked : Session → Line → List Line → Result Bool Refusal
+checked s r rs = do
+  check_words r
+  given ← read_whole (check_names s.f [] rs)
+  Ok (is_same (compared s.f given s.tree))
+
+-- ---- items
+
+-- What an item does.
+pub data Reply : Type 0 where
+  Changed : Session → Reply
+  Compared : Bool → Reply
+  Denied : Refusal → Reply
+
+-- An edit is done where the tree after it is not over the limit.
+abbrev pub accepted : Session → Applied → Reply
+accepted s a = if may_be_over s.limit s.query a.tree then Denied over_limit else Changed (record s { tree = a.tree })
+
+abbrev pub changed : Session → Result Applied Refusal → Reply
+changed s (Ok a) = accepted s a
+changed s (Err e) = Denied e
+
+abbrev pub compared_or : Result Bool Refusal → Reply
+compared_or (Ok same) = Compared same
+compared_or (Err e) = Denied e
+
+-- An item of one line, but for the limit.
+unfoldable pub line_edit : Session → Line → Result Applied Refusal
+line_edit s r = whole (λ r. if begins (codes "weight") r then weight_edit s r else Err (refusal.Syntax r.number)) r
+
+unfoldable pub single : Session → Line → Reply
+single s r = changed s (line_edit s r)
+
+-- An item of a block.
+unfoldable pub block : Session → Line → List Line → Reply
+block s r rs = if begins (codes "replace") r then changed s (replace_edit s r rs) else compared_or (checked s r rs)

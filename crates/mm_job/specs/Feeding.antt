@@ -1,0 +1,26 @@
+-- What a job has written of the lines that it has taken, whatever comes behind them.
+use Rattle.std.specs.Prelude.{◌≡◌, ℕ, ◌≤◌, List, ◌++◌, length, drop, Option}
+use Rattle.std.specs.Io.KnownBytes.{Appends}
+use Rattle.mm_job.specs.Courses.{come_to}
+use Rattle.mm_job.specs.Output.{Ending, printed_all}
+use Rattle.mm_job.specs.Stages.{told_by}
+use Rattle.mm_job.specs.declared.course.Course.{Course}
+use Rattle.mm_job.specs.declared.said.Said.{Said}
+use Rattle.mm_lines.specs.Lines.{lines_of}
+use Rattle.mm_lines.specs.Streams.{Stream}
+use Rattle.mm_lines.specs.declared.line.Line.{Line}
+
+-- The lines of a stream that were not handed out yet.
+abbrev pub left : Stream → List Line
+left s = drop s.handed (lines_of s.ended s.bytes)
+
+-- A stream has handed out no more lines than it has.
+abbrev pub IsWithin : Stream → Type 0
+IsWithin s = s.handed ≤ length (lines_of s.ended s.bytes)
+
+-- A job that has taken some lines has written what they say, whatever lines come behind, and knows what they come to.
+pub record Fed (limit : ℕ) (old new : Course) (lines lines_new : List Line) (held held_new : Option (List ℕ)) : Type 0 where
+  pub said : List Said
+  pub grew : Appends held held_new (printed_all said)
+  pub same : (e : Ending) (rs : List Line) → told_by limit old.stage e (lines ++ rs) ≡ said ++ told_by limit new.stage e (lines_new ++ rs)
+  pub comes : new.status ≡ come_to old.status said

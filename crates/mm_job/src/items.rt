@@ -1,0 +1,135 @@
+//! The items of a job, line by line.
+ghost use Rattle.std.specs.Prelude.{◌≡◌, ◌∷◌, ◌++◌, [], List, IfOk, Some, None, true, false, codes, if◌then◌else◌};
+ghost use Rattle.mm_lines.specs.declared.line.Line.{Line};
+ghost use Rattle.mm_job.specs.Blocks.{AreBegun, IsBegun, block_from, told_from, written};
+ghost use Rattle.mm_job.specs.Items.{closes};
+ghost use Rattle.mm_job.specs.Heads.{IsMatrix};
+ghost use Rattle.mm_present.specs.Comparing.{compared};
+ghost use Rattle.mm_job.specs.Output.{Ending, reply_line};
+ghost use Rattle.mm_job.specs.Edits.{is_same};
+ghost use Rattle.mm_job.specs.Sessions.{session_of};
+ghost use Rattle.mm_job.specs.declared.said.Said.TheVariants.{Says};
+
+use crate::block::{Block, closes, opens};
+use crate::edit::single_refusal;
+use crate::said::Said;
+use crate::session::Session;
+use mm_base::{NoMemory, Text};
+use mm_lines::Line;
+use mm_matrix::Matrix;
+use mm_present::{Named, Verdict, compare};
+use std::alloc::Global;
+
+/// Words alone.
+pub fn says(alloc: Global, words: &[u8]) -> Result<Said, NoMemory>
+    ensures { IfOk result (λ said. said ≡ Says words.now) }
+{
+    let mut text = Text::new(alloc);
+    text.append(alloc, words)?;
+    Ok(Said::Says(text))
+}
+
+/// Whether given rows agree with the present tree.
+fn compare_present(alloc: Global, session: &Session, given: &Named) -> Result<Said, NoMemory>
+    requires tree { session.now.tree.f ≡ session.now.field }
+    requires given { IsMatrix session.now.field given.now }
+    ensures { IfOk result (λ said. said ≡ Says (if is_same (compared session.now.field (record { names = given.now.names; rows = given.now.rows.rows }) session.now.tree.tree) then codes "same" else codes "differs")) }
+{
+    match compare(alloc, given, &session.tree)? {
+        Verdict::Same => says(alloc, b"same"),
+        _ => says(alloc, b"differs"),
+    }
+}
+
+/// The reply to a block at its `end`.
+fn close(alloc: Global, session: &Session, block: Block, line: &Line) -> Result<Said, NoMemory>
+    requires tree { session.now.tree.f ≡ session.now.field }
+    requires closes { closes line.now ≡ true }
+    requires begun { IsBegun session.now.field block }
+    ensures { IfOk result (λ said. said ≡ reply_line (block_from (session_of session.now) block (line.now ∷ []))) }
+{
+    match block {
+        Block::Denied(refusal) => Ok(Said::Refuses(refusal)),
+        Block::Names(names) => {
+            let rows = Matrix::new(alloc, session.field, names.len());
+            compare_present(alloc, session, &Named { names, rows })
+        }
+        Block::Rows(given) => compare_present(alloc, session, &given),
+    }
+}
+
+/// What a line of the items says, and the block that has begun then, if any.
+#[derive(Drop)]
+pub struct Told {
+    /// The line that is written.
+    pub said: Option<Said>,
+    /// The block.
+    pub block: Option<Block>,
+}
+
+/// Takes a line between two items.
+fn take_between(alloc: Global, session: &Session, line: &Line) -> Told
+    ensures begun { AreBegun session.now.field result.block }
+    ensures step { (e : Ending) (rs : List Line) →
+        told_from e (session_of session.now) None (line.now ∷ rs)
+        ≡ written result.said ++ told_from e (session_of session.now) result.block rs }
+{
+    if opens(line) {
+        return Told {
+            said: None,
+            block: Some(Block::open(alloc, line)),
+        };
+    }
+    Told {
+        said: Some(Said::Refuses(single_refusal(line))),
+        block: None,
+    }
+}
+
+/// Takes a line inside a block.
+fn take_inside(
+    alloc: Global,
+    session: &Session,
+    block: Block,
+    line: &Line,
+) -> Result<Told, NoMemory>
+    requires tree { session.now.tree.f ≡ session.now.field }
+    requires begun { IsBegun session.now.field block }
+    ensures begun { IfOk result (λ told. AreBegun session.now.field told.block) }
+    ensures step { IfOk result (λ told. (e : Ending) (rs : List Line) →
+        told_from e (session_of session.now) (Some block) (line.now ∷ rs)
+        ≡ written told.said ++ told_from e (session_of session.now) told.block rs) }
+{
+    if closes(line) {
+        let said = close(alloc, session, block, line)?;
+        return Ok(Told {
+            said: Some(said),
+            block: None,
+        });
+    }
+    let block = block.take(alloc, session.field, line)?;
+    Ok(Told {
+        said: None,
+        block: Some(block),
+    })
+}
+
+/// Takes a line of the items. What is written for all lines from this one on is what is written for it, and then for those behind it.
+pub fn take_item_line(
+    alloc: Global,
+    session: &Session,
+    block: Option<Block>,
+    line: &Line,
+) -> Result<Told, NoMemory>
+    requires tree { session.now.tree.f ≡ session.now.field }
+    requires begun { AreBegun session.now.field block }
+    ensures begun { IfOk result (λ told. AreBegun session.now.field told.block) }
+    ensures step { IfOk result (λ told. (e : Ending) (rs : List Line) →
+        told_from e (session_of session.now) block (line.now ∷ rs)
+        ≡ written told.said ++ told_from e (session_of session.now) told.block rs) }
+{
+    match block {
+        None => Ok(take_between(alloc, session, line)),
+        Some(block) => take_inside(alloc, session, block, line),
+    }
+}

@@ -1,0 +1,168 @@
+//! A job, whose text comes in pieces.
+use crate::course::{Course, is_refused, nothing_read};
+use crate::pieces::{take_last, take_piece, take_text_end};
+use crate::progress::{JobFault, Progress};
+use mm_base::{Sink, Status, Steps};
+use mm_lines::Framer;
+use std::alloc::Global;
+use std::marker::Model;
+use std::mem;
+use std::sync::ledger::Ledger;
+
+/// The most bytes of a text that are used.
+const MAX_BYTES: usize = 67_108_864;
+
+/// A job whose text comes in pieces, and which writes what each piece settles. Contracts see it as the text so far, the limit on
+/// sizes, and whether it goes on.
+#[derive(Drop)]
+pub struct Job {
+    limit: u64,
+    framer: Framer,
+    /// How many bytes of the text were taken.
+    taken: usize,
+    course: Course,
+    live: bool,
+}
+
+impl Model for Job {
+    ghost use Rattle.mm_job.specs.Jobs.{JobState};
+
+    ghost Value = { JobState };
+
+    ghost use Rattle.mm_job.specs.Kept.{IsJob, state_of};
+
+    ghost view = { state_of };
+
+    ghost invariant = { IsJob };
+}
+
+impl Job {
+    ghost use Rattle.std.specs.Prelude.{◌≡◌, ◌≤◌, ◌+◌, ◌++◌, [], true, false, Ok, IfOk, OnOk, OnErr, length};
+    ghost use Rattle.mm_lines.specs.Lines.{most_bytes, settled};
+    ghost use Rattle.mm_job.specs.Jobs.{Grew, GrewByFront, HasJobCause, goes_on, progress, with_piece};
+    ghost use Rattle.mm_job.specs.Output.{Over, end_of, output, settled_output, status_of, told};
+    ghost use Rattle.mm_job.specs.Standing.{written_at};
+    ghost use Rattle.mm_job.specs.declared.progress.Progress.TheVariants.{Ended, More};
+
+    /// A job with no text so far, with this limit on sizes. It takes no memory yet.
+    pub fn new(alloc: Global, limit: u64) -> Job
+        requires least { 1 ≤ limit }
+        requires most { limit ≤ 4194304 }
+        ensures { result ≡ record { text = []; limit = limit; live = true } }
+    {
+        Job {
+            limit,
+            framer: Framer::new(alloc),
+            taken: 0,
+            course: nothing_read(),
+            live: true,
+        }
+    }
+
+    /// Takes a piece that is used as a whole.
+    fn feed_all<K: Sink>(
+        &mut self,
+        alloc: Global,
+        piece: &[u8],
+        out: &mut K,
+    ) -> Result<Progress, JobFault>
+        requires live { self.old.live ≡ true }
+        requires size { length self.old.text + length piece.now ≤ most_bytes }
+        ensures progress { IfOk result (λ p. p ≡ progress (self.old.text ++ piece.now) self.old.limit) }
+        ensures text { result ≡ Ok More → self.new.text ≡ self.old.text ++ piece.now }
+        ensures limit { self.new.limit ≡ self.old.limit }
+        ensures live { self.new.live ≡ goes_on result }
+        ensures wrote { OnOk result (Grew (K.held out.old) (K.held out.new) (settled_output self.old.text self.old.limit) (settled_output (self.old.text ++ piece.now) self.old.limit)) }
+        ensures front { OnErr result (GrewByFront (K.held out.old) (K.held out.new) (settled_output self.old.text self.old.limit) (settled_output (self.old.text ++ piece.now) self.old.limit)) }
+        ensures cause { HasJobCause (K.faults out.old) (K.faults out.new) result }
+    {
+        self.live = false;
+        let course = mem::replace(&mut self.course, nothing_read());
+        let course = take_piece(alloc, self.limit, course, &mut self.framer, piece, out)?;
+        if is_refused(course.status) {
+            return Ok(Progress::Ended(Status::Refused));
+        }
+        self.taken += piece.len();
+        self.course = course;
+        self.live = true;
+        Ok(Progress::More)
+    }
+
+    /// Takes the last piece that is used of a text with more bytes.
+    fn feed_last<K: Sink>(
+        &mut self,
+        alloc: Global,
+        piece: &[u8],
+        out: &mut K,
+    ) -> Result<Progress, JobFault>
+        requires live { self.old.live ≡ true }
+        requires size { length self.old.text + length piece.now ≤ most_bytes }
+        ensures progress { IfOk result (λ p. p ≡ Ended (status_of (told self.old.limit Over (settled (self.old.text ++ piece.now))))) }
+        ensures limit { self.new.limit ≡ self.old.limit }
+        ensures live { self.new.live ≡ false }
+        ensures wrote { OnOk result (Grew (K.held out.old) (K.held out.new) (settled_output self.old.text self.old.limit) (written_at Over self.old.limit (self.old.text ++ piece.now))) }
+        ensures front { OnErr result (GrewByFront (K.held out.old) (K.held out.new) (settled_output self.old.text self.old.limit) (written_at Over self.old.limit (self.old.text ++ piece.now))) }
+        ensures cause { HasJobCause (K.faults out.old) (K.faults out.new) result }
+    {
+        self.live = false;
+        let course = mem::replace(&mut self.course, nothing_read());
+        let status = take_last(alloc, self.limit, course, &mut self.framer, piece, out)?;
+        Ok(Progress::Ended(status))
+    }
+
+    /// The text goes on with this piece, and what it settles is written. The job ends where the header is refused, and where the
+    /// text has more bytes than are used: nothing that comes behind matters then. After an `Err` a front of what is settled was
+    /// written: `Write` comes only where the sink counted a fault, and the job does not go on.
+    pub fn feed<K: Sink, L: Ledger>(
+        &mut self,
+        alloc: Global,
+        piece: &[u8],
+        out: &mut K,
+        steps: &mut Steps<L>,
+    ) -> Result<Progress, JobFault>
+        requires live { self.old.live ≡ true }
+        ensures progress { IfOk result (λ p. p ≡ progress (with_piece self.old.text piece.now) self.old.limit) }
+        ensures text { result ≡ Ok More → self.new.text ≡ with_piece self.old.text piece.now }
+        ensures limit { self.new.limit ≡ self.old.limit }
+        ensures live { self.new.live ≡ goes_on result }
+        ensures wrote { OnOk result (Grew (K.held out.old) (K.held out.new) (settled_output self.old.text self.old.limit) (settled_output (with_piece self.old.text piece.now) self.old.limit)) }
+        ensures front { OnErr result (GrewByFront (K.held out.old) (K.held out.new) (settled_output self.old.text self.old.limit) (settled_output (with_piece self.old.text piece.now) self.old.limit)) }
+        ensures cause { HasJobCause (K.faults out.old) (K.faults out.new) result }
+        ensures steps { steps.new ≡ steps.old }
+    {
+        let room = MAX_BYTES - self.taken;
+        if piece.len() > room {
+            self.feed_last(alloc, &piece[..room], out)
+        } else {
+            self.feed_all(alloc, piece, out)
+        }
+    }
+
+    /// The text has ended, and the rest of the output is written. After an `Err` a front of it was written. The job does not go on.
+    pub fn finish<K: Sink, L: Ledger>(
+        &mut self,
+        alloc: Global,
+        out: &mut K,
+        steps: &mut Steps<L>,
+    ) -> Result<Status, JobFault>
+        requires live { self.old.live ≡ true }
+        ensures status { IfOk result (λ status. status ≡ end_of self.old.text self.old.limit) }
+        ensures limit { self.new.limit ≡ self.old.limit }
+        ensures live { self.new.live ≡ false }
+        ensures wrote { OnOk result (Grew (K.held out.old) (K.held out.new) (settled_output self.old.text self.old.limit) (output self.old.text self.old.limit)) }
+        ensures front { OnErr result (GrewByFront (K.held out.old) (K.held out.new) (settled_output self.old.text self.old.limit) (output self.old.text self.old.limit)) }
+        ensures cause { HasJobCause (K.faults out.old) (K.faults out.new) result }
+        ensures steps { steps.new ≡ steps.old }
+    {
+        self.live = false;
+        let course = mem::replace(&mut self.course, nothing_read());
+        take_text_end(alloc, self.limit, course, &mut self.framer, out)
+    }
+
+    /// Whether the job goes on: no call of `feed` on it answered `Ended`, none answered an error, and it was not finished.
+    pub fn live(&self) -> bool
+        ensures { result ≡ self.now.live }
+    {
+        self.live
+    }
+}

@@ -1,0 +1,76 @@
+-- When the header of a job is refused for its rows.
+use Rattle.std.specs.Prelude.{◌≡◌, ◌↔◌, ℕ, List, [], ◌∷◌, true, length, Ok}
+use Rattle.std.specs.List.{IsDistinct}
+use Rattle.std.specs.Str.{bytes_eq}
+use Rattle.mm_field.specs.Vectors.{AreVectors}
+use Rattle.mm_job.specs.Header.{Parts, Session, parts, header, started}
+use Rattle.mm_job.specs.Meaning.{Query}
+use Rattle.mm_job.specs.NotBuilt.{is_built}
+use Rattle.mm_job.specs.Output.{output_lines}
+use Rattle.mm_job.specs.QueryLines.{query_line}
+use Rattle.mm_job.specs.declared.said.Said.{Said}
+use Rattle.mm_job.specs.declared.said.Said.TheVariants.{Refuses}
+use Rattle.mm_job_laws.specs.Agreement.{Agrees}
+use Rattle.mm_lines.specs.Lines.{lines}
+use Rattle.mm_lines.specs.declared.line.Line.{Line}
+use Rattle.mm_present.specs.Comparing.{Named}
+use Rattle.mm_tree.specs.ValidTree.{IsValidTree}
+use Rattle.mm_words.specs.Readers.{Reading, Read, Refused, Short, now, whole}
+use Rattle.mm_words.specs.declared.refusal.Refusal.{Refusal}
+use Rattle.mm_words.specs.declared.refusal.Refusal.TheVariants as refusal
+
+-- The names of the given rows, and the rows.
+abbrev pub given_of : Parts → Named
+given_of p = record { names = p.0.names; rows = p.0.rows }
+
+-- The given names are all different, each given row has a digit for each of them, and the tree is valid.
+pub record AreSound (p : Parts) : Type 0 where
+  pub different : IsDistinct bytes_eq p.0.names
+  pub vectors : AreVectors p.0.f (length p.0.names) p.0.rows
+  pub tree : IsValidTree p.0.f p.1
+
+-- The lines before the query, where none is faulty, give different names, rows over them and a valid tree.
+abbrev pub LinesAreSound : Type 0
+LinesAreSound = (rs rest : List Line) (p : Parts) → parts rs ≡ Read p rest → AreSound p
+
+-- One of the refusals `elements NAME`, `rowspace given I` and `rowspace tree J`.
+abbrev pub IsRowRefusal : Refusal → Type 0
+IsRowRefusal (refusal.Elements name) = Unit {0}
+IsRowRefusal (refusal.Given i) = Unit {0}
+IsRowRefusal (refusal.Present j) = Unit {0}
+IsRowRefusal why = ⊥
+
+-- A header is refused for its rows.
+abbrev pub IsRefusedForRows : Reading Session → Type 0
+IsRefusedForRows (Refused why) = IsRowRefusal why
+IsRefusedForRows (Read s rest) = ⊥
+IsRefusedForRows Short = ⊥
+
+-- What a job answers about, where the rows agree with the tree.
+abbrev pub session_of : ℕ → Parts → Query → Session
+session_of limit p query = record { f = p.0.f; ops = p.0.ops; query = query; limit = limit; tree = p.1 }
+
+-- What is read is a refusal of the rows exactly where they do not agree with the tree; and where they agree, it is the session with
+-- this tree, if that is not over the limit, and the lines behind the query.
+pub record IsDecidedByAgreement (limit : ℕ) (p : Parts) (query : Query) (rest : List Line) (read : Reading Session) : Type 0 where
+  pub refused : IsRefusedForRows read ↔ (Agrees p.0.f (given_of p) p.1 → ⊥)
+  pub agreeing : Agrees p.0.f (given_of p) p.1 → read ≡ now (started (session_of limit p query)) rest
+
+-- Where no line of a header up to its query is faulty, agreement decides what is made of it.
+abbrev pub RowsAreRefusedExactly : Type 0
+RowsAreRefusedExactly =
+    (limit : ℕ) (rs rest : List Line) (r : Line) (p : Parts) (query : Query) → parts rs ≡ Read p (r ∷ rest)
+    → whole query_line r ≡ Ok query → is_built query ≡ true → IsDecidedByAgreement limit p query rest (header limit rs)
+
+-- Nothing is written but one line, which refuses the rows.
+abbrev pub IsRowRefusalAlone : List Said → Type 0
+IsRowRefusalAlone (Refuses why ∷ []) = IsRowRefusal why
+IsRowRefusalAlone said = ⊥
+
+-- Where no line of a job up to its query is faulty, its output is one line that refuses the rows exactly where they do not agree
+-- with the tree.
+abbrev pub OutputRefusesRowsExactly : Type 0
+OutputRefusesRowsExactly =
+    (limit : ℕ) (text : List ℕ) (rest : List Line) (r : Line) (p : Parts) (query : Query) → parts (lines text) ≡ Read p (r ∷ rest)
+    → whole query_line r ≡ Ok query → is_built query ≡ true
+    → IsRowRefusalAlone (output_lines text limit) ↔ (Agrees p.0.f (given_of p) p.1 → ⊥)

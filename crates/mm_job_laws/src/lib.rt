@@ -1,0 +1,28 @@
+//! The laws of the header of a job, proved over its definitions alone: when it is refused for its rows. Each law is the contract
+//! of a function that does nothing.
+#![tactic(auto)]
+
+ghost use Rattle.mm_job_laws.specs.Agreement.{SameExactlyWhereTheyAgree};
+ghost use Rattle.mm_job_laws.specs.HeaderLaws.{LinesAreSound, OutputRefusesRowsExactly, RowsAreRefusedExactly};
+
+/// Given rows and a tree are compared as the same exactly where each has the elements and the row space of the other.
+pub fn compared_says_same_exactly_where_they_agree()
+    ensures { SameExactlyWhereTheyAgree }
+{}
+
+/// The lines before the query, where none is faulty, give different names, rows with a digit for each of them, and a valid tree.
+pub fn the_lines_before_the_query_are_sound()
+    ensures { LinesAreSound }
+{}
+
+/// Where the query is reached and no line is faulty, a header is refused for its rows exactly where they do not agree with the
+/// tree.
+pub fn rows_are_refused_exactly_where_they_disagree()
+    ensures { RowsAreRefusedExactly }
+{}
+
+/// Where no line of a job up to its query is faulty, its output is one line that refuses the rows exactly where they do not agree
+/// with the tree.
+pub fn the_output_refuses_rows_exactly_where_they_disagree()
+    ensures { OutputRefusesRowsExactly }
+{}
