@@ -1,0 +1,3 @@
+pub mod EndedLaws
+pub mod RunLaws
+pub mod StepLaws

@@ -1,0 +1,18 @@
+use Rattle.std.proofs.Common.{◌≡◌, ◌≤◌, ◌+◌, ◌-◌, true, length}
+use Rattle.mm_lines.specs.Lines.{most_bytes}
+use Rattle.mm_cli.specs.Going.{SoFar}
+use Rattle.mm_cli.proofs.reading.run.Given as goal
+
+abbrev pub invariant-pieces : goal.invariant-pieces
+invariant-pieces g l = record {
+  far : SoFar l.limit (g.S.Source.left l.initial.source) (g.S.Source.left l.source) (g.K.Sink.held l.initial.sink) (g.K.Sink.held l.sink) l.job.text;
+  count : length l.job.text ≡ l.taken;
+  limit : l.job.limit ≡ l.limit;
+  live : l.job.live ≡ true;
+  source_later : g.S.Source.faults l.initial.source ≤ g.S.Source.faults l.source;
+  sink_later : g.K.Sink.faults l.initial.sink ≤ g.K.Sink.faults l.sink;
+  steps : l.steps ≡ l.initial.steps;
+}
+
+abbrev pub decreases-pieces : goal.decreases-pieces
+decreases-pieces g l = most_bytes + 1 - l.taken

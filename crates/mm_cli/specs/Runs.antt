@@ -1,0 +1,66 @@
+-- What a run of a job owes to its source and its sink.
+use Rattle.std.specs.Prelude.{◌≡◌, ◌⊎◌, ℕ, ◌+◌, true, List, length, codes, IfSome}
+use Rattle.std.specs.declared.option.Option.{Option}
+use Rattle.std.specs.Io.KnownBytes.{Appends, Consumes, IsAtEnd}
+use Rattle.mm_base.specs.Causes.{GrowsByFront}
+use Rattle.mm_base.specs.declared.status.Status.{Status}
+use Rattle.mm_base.specs.declared.status.Status.TheVariants.{Done, Refused, EditRefused, ReadFault, WriteFault, NoMemory}
+use Rattle.mm_lines.specs.Lines.{most_bytes}
+use Rattle.mm_job.specs.Jobs.{begins_refused}
+use Rattle.mm_job.specs.declared.progress.JobFault.{JobFault}
+use Rattle.mm_job.specs.declared.progress.JobFault.TheVariants as fault
+use Rattle.mm_job.specs.declared.progress.JobFault.TheVariants.{Write}
+use Rattle.mm_job.specs.Output.{output, settled_output, settled_lines, end_of}
+
+-- The run came to the end of its job.
+abbrev pub IsEnd : Status → Type 0
+IsEnd s = (s ≡ Done) ⊎ (s ≡ Refused) ⊎ (s ≡ EditRefused)
+
+-- The run was cut short.
+abbrev pub IsCut : Status → Type 0
+IsCut s = (s ≡ ReadFault) ⊎ (s ≡ WriteFault) ⊎ (s ≡ NoMemory)
+
+-- The status of a job that stops
+abbrev pub cut : JobFault → Status
+cut Write = WriteFault
+cut fault.NoMemory = NoMemory
+
+-- What was taken is enough: nothing is left, or a settled line refuses the header, or it is one byte more than is used.
+abbrev pub IsEnough : ℕ → List ℕ → Option (List ℕ) → Type 0
+IsEnough limit taken left = IsAtEnd left ⊎ (begins_refused (settled_lines taken limit) ≡ true) ⊎ (length taken ≡ most_bytes + 1)
+
+-- The job that the source had left was answered: the sink grew by its output, and the status is its end.
+pub record Answers (limit : ℕ) (left left_new held held_new : Option (List ℕ)) (status : Status) : Type 0 where
+  pub grew : IfSome left (λ text. Appends held held_new (output text limit))
+  pub ended : IfSome left (λ text. status ≡ end_of text limit)
+  pub read : (taken : List ℕ) × Consumes left left_new taken × IsEnough limit taken left_new
+
+-- A read failed: the sink grew by what is settled of the bytes that were taken.
+abbrev pub Stops : ℕ → Option (List ℕ) → Option (List ℕ) → Option (List ℕ) → Option (List ℕ) → Type 0
+Stops limit left left_new held held_new =
+    (taken : List ℕ) × Consumes left left_new taken × Appends held held_new (settled_output taken limit)
+
+-- The sink grew by a front of the output of the job that the source had left.
+abbrev pub WritesFront : ℕ → Option (List ℕ) → Option (List ℕ) → Option (List ℕ) → Type 0
+WritesFront limit left held held_new = IfSome left (λ text. GrowsByFront held held_new (output text limit))
+
+-- What a run of a job owes: it comes to the end of the job or is cut short, and by its status the sink has grown.
+pub record Ran (limit : ℕ) (left left_new held held_new : Option (List ℕ)) (status : Status) : Type 0 where
+  pub ends : IsEnd status ⊎ IsCut status
+  pub answers : IsEnd status → Answers limit left left_new held held_new status
+  pub stops : status ≡ ReadFault → Stops limit left left_new held held_new
+  pub front : IsCut status → WritesFront limit left held held_new
+
+-- The line that refuses words which ask for nothing.
+abbrev pub usage_line : List ℕ
+usage_line = codes "refused usage\n"
+
+-- The line of a command that is not built yet.
+abbrev pub not_built_line : List ℕ
+not_built_line = codes "refused not-built\n"
+
+-- One line was written, and the status is the one that goes with it, unless the write was cut short.
+pub record WritesLine (line : List ℕ) (whole : Status) (held held_new : Option (List ℕ)) (status : Status) : Type 0 where
+  pub ends : (status ≡ whole) ⊎ (status ≡ WriteFault) ⊎ (status ≡ NoMemory)
+  pub grew : status ≡ whole → Appends held held_new line
+  pub front : IsCut status → GrowsByFront held held_new line

@@ -1,0 +1,96 @@
+-- The words of the command line, and what they ask for.
+use Rattle.std.specs.Prelude.{ℕ, ◌≤◌, Bool, true, false, ◌&&◌, ◌||◌, ◌==◌, nat_le, List, [], ◌∷◌, length, take, drop, codes, slice_index_or, map, String, string_bytes, Option, Some, None, is_some, if◌then◌else◌}
+use Rattle.std.specs.declared.alloc.Global.{Global}
+use Rattle.std.specs.List.{list_all}
+use Rattle.std.specs.Str.{bytes_eq}
+use Rattle.mm_field.specs.declared.Field.{Field}
+use Rattle.mm_lines.specs.Numbers.{number_of}
+use Rattle.mm_words.specs.DigitTexts.{vectors_of}
+use Rattle.mm_words.specs.HeaderLines.{field_of}
+use Rattle.mm_cli.specs.declared.words.Command.{Command}
+use Rattle.mm_cli.specs.declared.words.Command.TheVariants.{Run, NotBuilt}
+
+-- The greatest limit on sizes, which holds where none is given.
+abbrev pub most_limit : ℕ
+most_limit = 4194304
+
+abbrev pub within : ℕ → ℕ → Option ℕ → Option ℕ
+within least most None = None
+within least most (Some n) = if nat_le least n && nat_le n most then Some n else None
+
+-- The number that 1 to 10 digits spell, where it is in these bounds.
+abbrev pub number_within : ℕ → ℕ → List ℕ → Option ℕ
+number_within least most word = within least most (number_of 10 word)
+
+abbrev pub is_number_within : ℕ → ℕ → List ℕ → Bool
+is_number_within least most word = is_some (number_within least most word)
+
+-- `run` with a limit, where there is one
+abbrev pub limited : Option ℕ → Option Command
+limited None = None
+limited (Some limit) = Some (Run limit)
+
+-- A limit that is given is from 1 to the greatest.
+abbrev pub IsWithinLimit : Command → Type 0
+IsWithinLimit (Run limit) = (1 ≤ limit) × (limit ≤ most_limit)
+IsWithinLimit NotBuilt = Unit {0}
+
+-- a command that is in the table and is not built yet
+abbrev pub not_built : Bool → Option Command
+not_built b = if b then Some NotBuilt else None
+
+-- `run`, or a command without further words
+abbrev pub alone : List ℕ → Option Command
+alone word =
+    if bytes_eq word (codes "run") then Some (Run most_limit)
+    else not_built (bytes_eq word (codes "build") || bytes_eq word (codes "dual") || bytes_eq word (codes "prove") || bytes_eq word (codes "verify"))
+
+-- `run --limit=N`
+abbrev pub with_joined : List ℕ → List ℕ → Option Command
+with_joined word joined =
+    if bytes_eq word (codes "run") && bytes_eq (take 8 joined) (codes "--limit=")
+    then limited (number_within 1 most_limit (drop 8 joined)) else None
+
+-- how many columns rows of one length have
+abbrev pub columns_of : List (List ℕ) → ℕ
+columns_of rows = length (slice_index_or rows 0 [])
+
+-- at least one row, and all rows of one length from 1 to 5: the rows of a matrix of so many columns
+abbrev pub is_small_matrix : List (List ℕ) → Bool
+is_small_matrix rows =
+    nat_le 1 (length rows) && nat_le 1 (columns_of rows) && nat_le (columns_of rows) 5 && list_all (λ v. length v == columns_of rows) rows
+
+abbrev pub is_some_small_matrix : Option (List (List ℕ)) → Bool
+is_some_small_matrix None = false
+is_some_small_matrix (Some rows) = is_small_matrix rows
+
+abbrev pub is_matrix_over : Option Field → List ℕ → Bool
+is_matrix_over None rows = false
+is_matrix_over (Some f) rows = is_some_small_matrix (vectors_of f rows)
+
+abbrev pub is_matrix_of_order : Option ℕ → List ℕ → Bool
+is_matrix_of_order None rows = false
+is_matrix_of_order (Some q) rows = is_matrix_over (field_of q) rows
+
+-- `run --limit N` or `minor Q GEN`
+abbrev pub with_two : List ℕ → List ℕ → List ℕ → Option Command
+with_two word first second =
+    if bytes_eq word (codes "run") && bytes_eq first (codes "--limit") then limited (number_within 1 most_limit second)
+    else not_built (bytes_eq word (codes "minor") && is_matrix_of_order (number_within 2 5 first) second)
+
+-- `sample Q N SEED`
+abbrev pub with_three : List ℕ → List ℕ → List ℕ → List ℕ → Option Command
+with_three word q n seed =
+    not_built (bytes_eq word (codes "sample") && is_number_within 2 5 q && is_number_within 2 200 n && is_number_within 1 2147483646 seed)
+
+-- The command that some words ask for: those of no row of the table ask for nothing.
+unfoldable pub command_of : List (List ℕ) → Option Command
+command_of (word ∷ []) = alone word
+command_of (word ∷ joined ∷ []) = with_joined word joined
+command_of (word ∷ first ∷ second ∷ []) = with_two word first second
+command_of (word ∷ q ∷ n ∷ seed ∷ []) = with_three word q n seed
+command_of words = None
+
+-- What the words of the command line ask for.
+abbrev pub asked : List (String Global) → Option Command
+asked words = command_of (map string_bytes words)

@@ -1,0 +1,114 @@
+//! The loop that reads a job and writes its answers.
+ghost use Rattle.std.specs.Prelude.{◌≡◌, ◌≤◌, ◌<◌, ◌+◌, ℕ, List, length, true};
+ghost use Rattle.std.specs.declared.option.Option.{Option};
+ghost use Rattle.std.specs.Io.KnownBytes.{IsAtEnd};
+ghost use Rattle.mm_base.specs.declared.status.Status.{Status};
+ghost use Rattle.mm_cli.specs.Going.{SoFar};
+ghost use Rattle.mm_lines.specs.Lines.{most_bytes};
+ghost use Rattle.mm_base.specs.Causes.{Rose};
+ghost use Rattle.mm_base.specs.declared.status.Status.TheVariants as ends;
+ghost use Rattle.mm_cli.specs.Runs.{Ran, cut};
+
+use mm_base::{Sink, Source, Status, Steps};
+use mm_job::{Job, JobFault, Progress};
+use std::alloc::Global;
+use std::sync::ledger::Ledger;
+
+/// The bytes that are used of a job, and one more.
+const MOST_BYTES: usize = 67_108_865;
+
+/// How many bytes one read asks for at most.
+const PIECE: usize = 8192;
+
+/// How a run ends by a fault of its job.
+fn cut(fault: JobFault) -> Status
+    ensures { result ≡ cut fault }
+{
+    match fault {
+        JobFault::Write => Status::WriteFault,
+        JobFault::NoMemory => Status::NoMemory,
+    }
+}
+
+/// What one read of the source brought.
+enum Step {
+    /// The end of the source.
+    End,
+    /// So many bytes, and the job goes on.
+    More(usize),
+    /// The end of the run.
+    Stop(Status),
+}
+
+/// Reads a piece into the buffer, and writes what it settles.
+fn read_piece<S: Source, K: Sink, L: Ledger>(
+    alloc: Global,
+    job: &mut Job,
+    buffer: &mut [u8],
+    source: &mut S,
+    sink: &mut K,
+    steps: &mut Steps<L>,
+) -> Step
+    requires live { job.old.live ≡ true }
+    requires some { 0 < length buffer.old }
+    requires room { length job.old.text + length buffer.old ≤ most_bytes + 1 }
+    ensures end { result ≡ Step.End → (job.new ≡ job.old) × IsAtEnd (S.left source.new) ×
+        ((left held : Option (List ℕ)) → SoFar job.old.limit left (S.left source.old) held (K.held sink.old) job.old.text →
+        SoFar job.old.limit left (S.left source.new) held (K.held sink.new) job.old.text) }
+    ensures more { (n : ℕ) → result ≡ Step.More n → (length job.new.text ≡ length job.old.text + n) × (0 < n) × (n ≤ length buffer.old)
+        × (job.new.limit ≡ job.old.limit) × (job.new.live ≡ true) ×
+        ((left held : Option (List ℕ)) → SoFar job.old.limit left (S.left source.old) held (K.held sink.old) job.old.text →
+        SoFar job.old.limit left (S.left source.new) held (K.held sink.new) job.new.text) }
+    ensures stop { (s : Status) → result ≡ Step.Stop s →
+        ((left held : Option (List ℕ)) → SoFar job.old.limit left (S.left source.old) held (K.held sink.old) job.old.text →
+        Ran job.old.limit left (S.left source.new) held (K.held sink.new) s) }
+    ensures read_later { S.faults source.old ≤ S.faults source.new }
+    ensures read_fault { result ≡ Step.Stop ends.ReadFault → Rose (S.faults source.old) (S.faults source.new) }
+    ensures write_later { K.faults sink.old ≤ K.faults sink.new }
+    ensures write_fault { result ≡ Step.Stop ends.WriteFault → Rose (K.faults sink.old) (K.faults sink.new) }
+    ensures steps { steps.new ≡ steps.old }
+{
+    let Ok(count) = source.read(buffer) else {
+        return Step::Stop(Status::ReadFault);
+    };
+    if count == 0 {
+        return Step::End;
+    }
+    match job.feed(alloc, &buffer[..count], sink, steps) {
+        Ok(Progress::More) => Step::More(count),
+        Ok(Progress::Ended(status)) => Step::Stop(status),
+        Err(fault) => Step::Stop(cut(fault)),
+    }
+}
+
+/// Reads the job in the source, piece by piece, and writes what each piece settles before it reads again.
+pub fn run<S: Source, K: Sink, L: Ledger>(
+    alloc: Global,
+    limit: u64,
+    source: &mut S,
+    sink: &mut K,
+    steps: &mut Steps<L>,
+) -> Status
+    requires least { 1 ≤ limit }
+    requires most { limit ≤ 4194304 }
+    ensures run { Ran limit (S.left source.old) (S.left source.new) (K.held sink.old) (K.held sink.new) result }
+    ensures read_fault { result ≡ ends.ReadFault → Rose (S.faults source.old) (S.faults source.new) }
+    ensures write_fault { result ≡ ends.WriteFault → Rose (K.faults sink.old) (K.faults sink.new) }
+    ensures steps { steps.new ≡ steps.old }
+{
+    let mut job = Job::new(alloc, limit);
+    let mut buffer = [0u8; PIECE];
+    let mut taken = 0;
+    'pieces: while taken < MOST_BYTES {
+        let want = PIECE.min(MOST_BYTES - taken);
+        match read_piece(alloc, &mut job, &mut buffer[..want], source, sink, steps) {
+            Step::End => break 'pieces,
+            Step::More(count) => taken += count,
+            Step::Stop(status) => return status,
+        }
+    }
+    match job.finish(alloc, sink, steps) {
+        Ok(status) => status,
+        Err(fault) => cut(fault),
+    }
+}

@@ -1,0 +1,186 @@
+//! The words of the command line, and what they ask for.
+ghost use Rattle.std.specs.Prelude.{◌≡◌, ◌≤◌, ◌==◌, length, map, string_bytes, IfSome};
+ghost use Rattle.std.specs.List.{list_all};
+ghost use Rattle.mm_lines.specs.Numbers.{number_of};
+ghost use Rattle.mm_cli.specs.Words.{IsWithinLimit, alone, command_of, is_matrix_of_order, is_small_matrix, limited, most_limit, not_built, number_within, with_joined, with_three, with_two};
+
+use mm_field::Field;
+use mm_lines::read_i64;
+use mm_space::Gen;
+use mm_words::{is_text, read_vectors};
+
+/// The greatest limit on sizes, which holds where none is given.
+const MOST_LIMIT: u64 = 4_194_304;
+
+/// What the words of the command line ask for.
+#[derive(Clone, Copy, Debug, PartialEq, Eq)]
+pub enum Command {
+    /// `run`, with the limit on sizes: the job in the source is answered.
+    Run(u64),
+    /// A command of the table that is not built yet.
+    NotBuilt,
+}
+
+/// The number that 1 to 10 digits spell.
+fn number(word: &[u8]) -> Option<u64>
+    ensures { result ≡ number_of 10 word.now }
+{
+    if word.len() > 10 {
+        return None;
+    }
+    match word {
+        [b'-', ..] => None,
+        _ => match read_i64(word) {
+            Some(n) => Some(n as u64),
+            None => None,
+        },
+    }
+}
+
+/// The number that 1 to 10 digits spell, where it is in these bounds.
+fn number_within(least: u64, most: u64, word: &[u8]) -> Option<u64>
+    ensures number { result ≡ number_within least most word.now }
+    ensures least { IfSome result (λ n. least ≤ n) }
+    ensures most { IfSome result (λ n. n ≤ most) }
+{
+    match number(word) {
+        Some(n) if least <= n && n <= most => Some(n),
+        _ => None,
+    }
+}
+
+/// `run` with a limit, where there is one.
+fn limited(limit: Option<u64>) -> Option<Command>
+    requires least { IfSome limit (λ n. 1 ≤ n) }
+    requires most { IfSome limit (λ n. n ≤ most_limit) }
+    ensures command { result ≡ limited limit }
+    ensures limit { IfSome result IsWithinLimit }
+{
+    match limit {
+        Some(limit) => Some(Command::Run(limit)),
+        None => None,
+    }
+}
+
+/// A command of the table that is not built yet.
+fn not_built(is_command: bool) -> Option<Command>
+    ensures command { result ≡ not_built is_command }
+    ensures limit { IfSome result IsWithinLimit }
+{
+    if is_command {
+        Some(Command::NotBuilt)
+    } else {
+        None
+    }
+}
+
+/// `run`, or a command without further words.
+fn alone(word: &[u8]) -> Option<Command>
+    ensures command { result ≡ alone word.now }
+    ensures limit { IfSome result IsWithinLimit }
+{
+    if is_text(word, b"run") {
+        return Some(Command::Run(MOST_LIMIT));
+    }
+    not_built(
+        is_text(word, b"build")
+            || is_text(word, b"dual")
+            || is_text(word, b"prove")
+            || is_text(word, b"verify"),
+    )
+}
+
+/// `run --limit=N`.
+fn with_joined(word: &[u8], joined: &[u8]) -> Option<Command>
+    ensures command { result ≡ with_joined word.now joined.now }
+    ensures limit { IfSome result IsWithinLimit }
+{
+    if !is_text(word, b"run") || joined.len() < 8 || !is_text(&joined[..8], b"--limit=") {
+        return None;
+    }
+    limited(number_within(1, MOST_LIMIT, &joined[8..]))
+}
+
+/// Whether each of the rows has so many digits.
+fn have_length(rows: &Gen, columns: u8) -> bool
+    ensures { result ≡ list_all (λ v. length v == columns) rows.now }
+{
+    for k in 0..rows.rows() {
+        if rows.row(k).len() != columns {
+            return false;
+        }
+    }
+    true
+}
+
+/// Whether the rows are those of a matrix of 1 to 5 columns.
+fn is_small_matrix(rows: &Gen) -> bool
+    ensures { result ≡ is_small_matrix rows.now }
+{
+    if rows.rows() == 0 {
+        return false;
+    }
+    let columns = rows.row(0).len();
+    1 <= columns && columns <= 5 && have_length(rows, columns)
+}
+
+/// Whether a word shows the rows of a matrix of 1 to 5 columns over the field of q elements.
+fn is_matrix_of_order(q: Option<u64>, rows: &[u8]) -> bool
+    requires { IfSome q (λ n. n ≤ 5) }
+    ensures { result ≡ is_matrix_of_order q rows.now }
+{
+    let Some(q) = q else {
+        return false;
+    };
+    let Some(f) = Field::of(q as u8) else {
+        return false;
+    };
+    match read_vectors(f, rows) {
+        Some(rows) => is_small_matrix(&rows),
+        None => false,
+    }
+}
+
+/// `run --limit N` or `minor Q GEN`.
+fn with_two(word: &[u8], first: &[u8], second: &[u8]) -> Option<Command>
+    ensures command { result ≡ with_two word.now first.now second.now }
+    ensures limit { IfSome result IsWithinLimit }
+{
+    if is_text(word, b"run") && is_text(first, b"--limit") {
+        return limited(number_within(1, MOST_LIMIT, second));
+    }
+    not_built(is_text(word, b"minor") && is_matrix_of_order(number_within(2, 5, first), second))
+}
+
+/// `sample Q N SEED`.
+fn with_three(word: &[u8], q: &[u8], n: &[u8], seed: &[u8]) -> Option<Command>
+    ensures command { result ≡ with_three word.now q.now n.now seed.now }
+    ensures limit { IfSome result IsWithinLimit }
+{
+    not_built(
+        is_text(word, b"sample")
+            && number_within(2, 5, q).is_some()
+            && number_within(2, 200, n).is_some()
+            && number_within(1, 2_147_483_646, seed).is_some(),
+    )
+}
+
+/// The command that the words ask for. None where they are those of no row of the table.
+#[tactic(auto, unfolding(crate::specs::Words::command_of))]
+pub fn command_of(words: &[String]) -> Option<Command>
+    ensures command { result ≡ command_of (map string_bytes words.now) }
+    ensures limit { IfSome result IsWithinLimit }
+{
+    match words {
+        [word] => alone(word.as_bytes()),
+        [word, joined] => with_joined(word.as_bytes(), joined.as_bytes()),
+        [word, first, second] => with_two(word.as_bytes(), first.as_bytes(), second.as_bytes()),
+        [word, q, n, seed] => with_three(
+            word.as_bytes(),
+            q.as_bytes(),
+            n.as_bytes(),
+            seed.as_bytes(),
+        ),
+        _ => None,
+    }
+}

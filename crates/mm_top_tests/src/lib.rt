@@ -1,0 +1,14 @@
+//! Whole jobs, from the words of the command line to the bytes that are written and the status: tables of tests over sources and
+//! sinks in memory.
+#![tactic(auto)]
+
+#[cfg(test)]
+mod changes;
+#[cfg(test)]
+mod devices;
+#[cfg(test)]
+mod jobs;
+#[cfg(test)]
+mod large;
+#[cfg(test)]
+mod running;
