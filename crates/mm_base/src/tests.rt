@@ -101,19 +101,19 @@ fn a_counter_needs_no_memory(rt: HostRuntime) {
     two_steps::<Brand>(Blank::new(1));
 }
 
-/// What a want of memory arisings, through the bound alone.
-fn arising<E, F: From<E>>(cause: E) -> F {
+/// An error made of its cause, through the bound alone.
+fn made_of<E, F: From<E>>(cause: E) -> F {
     F::from(cause)
 }
 
 #[test]
 fn want_of_memory_stays_what_it_is(rt: HostRuntime) {
-    let from_allocator: TextFault = arising(AllocError);
+    let from_allocator: TextFault = made_of(AllocError);
     assert!(rt; matches!(from_allocator, TextFault::NoMemory));
-    let from_call: TextFault = arising(NoMemory);
+    let from_call: TextFault = made_of(NoMemory);
     assert!(rt; matches!(from_call, TextFault::NoMemory));
-    let of_sink: SinkFault = arising(AllocError);
+    let of_sink: SinkFault = made_of(AllocError);
     assert!(rt; of_sink == SinkFault::NoMemory);
-    let of_call: NoMemory = arising(AllocError);
+    let of_call: NoMemory = made_of(AllocError);
     assert!(rt; of_call == NoMemory);
 }

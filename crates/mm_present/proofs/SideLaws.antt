@@ -1,7 +1,8 @@
 -- Rows of a matrix, each times its coefficient, added one by one from the last to the first; and the rows of a join.
-use Rattle.std.proofs.Common.{ℕ, suc, ◌+◌, ◌-◌, ◌<◌, ◌≤◌, ◌≡◌, List, [], ◌∷◌, ◌++◌, length, map, reverse, get_or, drop, sym, ap, ap₂, subst, ◌∙◌, arith, append_assoc}
+use Rattle.std.proofs.Common.{ℕ, suc, ◌+◌, ◌-◌, ◌<◌, ◌≤◌, ◌≡◌, List, [], ◌∷◌, ◌++◌, length, map, reverse, get_or, take, drop, sym, ap, ap₂, subst, ◌∙◌, arith, append_assoc, length-append}
 use Rattle.std.specs.List.{range_with_len}
-use Rattle.std.proofs.lemmas.List.{drop_more, drop_all, length-map, reverse-append}
+use Rattle.std.proofs.Math.Seq.{take-append_seam, drop-append-add}
+use Rattle.std.proofs.lemmas.List.{drop_more, drop_all, drop-replicate, length-map, length-replicate, reverse-append, take-replicate}
 use Rattle.mm_field.specs.declared.Field.{Field}
 use Rattle.mm_field.specs.Vectors.{zeros, vector_sum, multiple, combination, IsVector, AreVectors}
 use Rattle.mm_field.proofs.VectorLaws.{vector_sum_comm}
@@ -13,7 +14,7 @@ use Rattle.mm_logic.specs.PresentMatrix.{column_digits}
 use Rattle.mm_matrix.specs.MatrixValue.{MatrixValue}
 use Rattle.mm_ops.specs.OpValue.{OpValue}
 use Rattle.mm_present.specs.RowForm.{row_of, in_join}
-use Rattle.mm_present.specs.Joining.{ArePart, IsSide, side_row, join_row, joined_row}
+use Rattle.mm_present.specs.Joining.{ArePart, IsSide, side_row, join_row, joined_row, widened, with_digits}
 use Rattle.mm_present.specs.declared.sides.Side.{Side}
 
 pub sum_start : (f : Field) (n t : ℕ) (b : List ℕ) (rows : List (List ℕ)) → length b ≡ t → zeros n ≡ combination f n (drop t b) (drop t rows)
@@ -32,7 +33,7 @@ sum_step f n b rows j out a x new p lb lr out_is a_is x_is new_is =
 
 -- ---- the rows of a join
 
-side_vector : (f : Field) (r k : ℕ) (side : Side) → IsSide f r side → IsVector f side.rows.cols (side_row k side)
+pub side_vector : (f : Field) (r k : ℕ) (side : Side) → IsSide f r side → IsVector f side.rows.cols (side_row k side)
 side_vector f r k side h =
     subst (λ g. IsVector g side.rows.cols (side_row k side)) h.field
     (IsVector-combination side.rows.f side.rows.cols (row_of side.digits.rows k) side.rows.rows
@@ -42,6 +43,50 @@ pub join_row_vector : (f : Field) (r k : ℕ) (left right : Side) → IsSide f r
     IsVector f (left.rows.cols + right.rows.cols) (join_row left right k)
 join_row_vector f r k left right hl hr =
     IsVector-append f left.rows.cols right.rows.cols (side_row k left) (side_row k right) (side_vector f r k left hl) (side_vector f r k right hr)
+
+-- ---- digits that are put into zeros, and other digits behind them
+
+one_put : (b l n : ℕ) (xs : List ℕ) → length xs ≡ l → with_digits b xs (zeros (b + l + n)) ≡ (zeros b ++ xs) ++ zeros n
+one_put b l n xs e =
+    ap (λ k. take b (zeros (b + l + n)) ++ (xs ++ drop (b + k) (zeros (b + l + n)))) e
+    ∙ ap₂ (λ u v. u ++ (xs ++ v)) (take-replicate b (b + l + n) 0 (omega arith)) (drop-replicate (b + l) (b + l + n) 0 ∙ ap zeros (omega arith))
+    ∙ sym (append_assoc (zeros b) xs (zeros n))
+
+front_length : (b l : ℕ) (xs : List ℕ) → length xs ≡ l → b + l ≡ length (zeros b ++ xs)
+front_length b l xs e = sym (length-append (zeros b) xs ∙ ap₂ (λ m n. m + n) (length-replicate b 0) e)
+
+-- what stands behind the first digits
+behind : (b l m n : ℕ) (xs : List ℕ) → length xs ≡ l → drop (b + l + m) (with_digits b xs (zeros (b + l + (m + n)))) ≡ zeros n
+behind b l m n xs e =
+    ap (λ row. drop (b + l + m) row) (one_put b l (m + n) xs e)
+    ∙ ap (λ k. drop (k + m) ((zeros b ++ xs) ++ zeros (m + n))) (front_length b l xs e)
+    ∙ drop-append-add (zeros b ++ xs) (zeros (m + n)) m
+    ∙ drop-replicate m (m + n) 0
+    ∙ ap zeros (omega arith)
+
+-- where the others are put there are zeros still
+pub zeros_behind : (b l r a : ℕ) (xs : List ℕ) → length xs ≡ l → take r (drop (b + l) (with_digits b xs (zeros (b + l + r + a)))) ≡ zeros r
+zeros_behind b l r a xs e =
+    let n : b + l + r + a ≡ b + l + (0 + (r + a)) = omega arith in
+    let from : b + l ≡ b + l + 0 = omega arith in
+    ap₂ (λ i j. take r (drop i (with_digits b xs (zeros j)))) from n
+    ∙ ap (λ row. take r row) (behind b l 0 (r + a) xs e)
+    ∙ take-replicate r (r + a) 0 (omega arith)
+
+pub both_put : (b l r a : ℕ) (xs ys : List ℕ) → length xs ≡ l → length ys ≡ r
+    → with_digits (b + l) ys (with_digits b xs (zeros (b + l + r + a))) ≡ widened b a (xs ++ ys)
+both_put b l r a xs ys e d =
+    let n : b + l + r + a ≡ b + l + (r + a) = omega arith in
+    let front = zeros b ++ xs in
+    ap (λ j. with_digits (b + l) ys (with_digits b xs (zeros j))) n
+    ∙ ap (λ k. take (b + l) (with_digits b xs (zeros (b + l + (r + a)))) ++ (ys ++ drop (b + l + k) (with_digits b xs (zeros (b + l + (r + a)))))) d
+    ∙ ap₂ (λ u v. u ++ (ys ++ v)) (first_digits b l (r + a) xs e) (behind b l r a xs e)
+    ∙ append_assoc (zeros b) xs (ys ++ zeros a)
+    ∙ ap (λ v. zeros b ++ v) (sym (append_assoc xs ys (zeros a)))
+  where
+    first_digits : (b l n : ℕ) (xs : List ℕ) → length xs ≡ l → take (b + l) (with_digits b xs (zeros (b + l + n))) ≡ zeros b ++ xs
+    first_digits b l n xs e =
+        ap₂ (λ k row. take k row) (front_length b l xs e) (one_put b l n xs e) ∙ take-append_seam (zeros b ++ xs) (zeros n)
 
 -- one more row of those from the last to the first
 pub internal_step : (w : List ℕ → List ℕ) (h : ℕ → List ℕ) (t c k : ℕ) (old now new : List (List ℕ)) (row : List ℕ) → 0 < k → k ≤ c →

@@ -1,5 +1,5 @@
 -- The rows of a join by the boundary rows of its children, and of a node among all elements.
-use Rattle.std.specs.Prelude.{ℕ, ◌≡◌, List, ◌++◌, length, map}
+use Rattle.std.specs.Prelude.{ℕ, ◌≡◌, ◌+◌, List, ◌++◌, length, map, take, drop}
 use Rattle.std.specs.List.{range_with_len}
 use Rattle.mm_field.specs.declared.Field.{Field}
 use Rattle.mm_field.specs.Vectors.{zeros, combination, AreVectors}
@@ -13,6 +13,10 @@ use Rattle.mm_present.specs.declared.sides.Side.{Side}
 -- a row with zeros before and after it
 abbrev pub widened : ℕ → ℕ → List ℕ → List ℕ
 widened before after row = zeros before ++ (row ++ zeros after)
+
+-- a row with other digits from a place on
+abbrev pub with_digits : ℕ → List ℕ → List ℕ → List ℕ
+with_digits start digits row = take start row ++ (digits ++ drop (start + length digits) row)
 
 -- row k of a join at the elements of a child
 abbrev pub side_row : ℕ → Side → List ℕ

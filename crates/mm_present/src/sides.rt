@@ -1,8 +1,8 @@
 //! The rows of a join from the boundary rows of its children.
 
-ghost use Rattle.std.specs.Prelude.{◌≡◌, ◌<◌, ◌≤◌, ◌+◌, ◌^◌, ◌++◌, ℕ, IfOk, OnOk, length};
+ghost use Rattle.std.specs.Prelude.{◌≡◌, ◌<◌, ◌≤◌, ◌+◌, ◌^◌, ℕ, IfOk, length, take, drop};
 ghost use Rattle.mm_field.specs.Vectors.{zeros};
-ghost use Rattle.mm_present.specs.Joining.{IsSide, side_row, join_row, widened};
+ghost use Rattle.mm_present.specs.Joining.{IsSide, side_row, join_row, widened, with_digits};
 
 use mm_base::NoMemory;
 use mm_field::lanes;
@@ -29,35 +29,28 @@ fn add_side(side: &Side, k: usize, out: &mut [u8])
     }
 }
 
-/// Row k of the join at the elements of a child.
-fn side_row(alloc: Global, side: &Side, k: usize) -> Result<Vec<u8>, NoMemory>
+/// Puts row k of the join at the elements of a child in the place of the zeros that a row has from `start` on.
+fn put_side(side: &Side, k: usize, start: usize, row: &mut [u8])
     requires side { IsSide side.now.rows.f side.now.digits.cols side.now }
     requires row { k < side.now.digits.cols }
-    ensures { IfOk result (λ row. row.items ≡ side_row k side.now) }
+    requires room { start + side.now.rows.cols ≤ length row.old }
+    requires zero { take side.now.rows.cols (drop start row.old) ≡ zeros side.now.rows.cols }
+    ensures { row.new ≡ with_digits start (side_row k side.now) row.old }
 {
-    let mut row = vec![in alloc; 0; side.rows.cols()]?;
-    add_side(side, k, &mut row);
-    Ok(row)
+    add_side(side, k, &mut row[start..start + side.rows.cols()]);
 }
 
-/// Puts n zeros behind what is there.
-fn push_zeros(alloc: Global, n: usize, row: &mut Vec<u8>) -> Result<(), NoMemory>
-    ensures { OnOk result (row.new.items ≡ row.old.items ++ zeros n) }
+/// Puts row k of the join behind the first `before` digits of a row of zeros.
+fn put_sides(left: &Side, right: &Side, k: usize, before: usize, after: usize, row: &mut [u8])
+    requires left { IsSide left.now.rows.f left.now.digits.cols left.now }
+    requires right { IsSide right.now.rows.f right.now.digits.cols right.now }
+    requires row_left { k < left.now.digits.cols }
+    requires row_right { k < right.now.digits.cols }
+    requires zero { row.old ≡ zeros (before + left.now.rows.cols + right.now.rows.cols + after) }
+    ensures { row.new ≡ widened before after (join_row left.now right.now k) }
 {
-    let more = vec![in alloc; 0; n]?;
-    row.extend_from_slice(&more)?;
-    Ok(())
-}
-
-/// Puts row k of the join at the elements of a child behind what is there.
-fn push_side(alloc: Global, side: &Side, k: usize, row: &mut Vec<u8>) -> Result<(), NoMemory>
-    requires side { IsSide side.now.rows.f side.now.digits.cols side.now }
-    requires row { k < side.now.digits.cols }
-    ensures { OnOk result (row.new.items ≡ row.old.items ++ side_row k side.now) }
-{
-    let more = side_row(alloc, side, k)?;
-    row.extend_from_slice(&more)?;
-    Ok(())
+    put_side(left, k, before, row);
+    put_side(right, k, before + left.rows.cols(), row);
 }
 
 /// Row k of the join, with zeros before and after it.
@@ -77,10 +70,7 @@ pub(crate) fn join_row(
     ensures { IfOk result (λ row. row.items ≡ widened before after (join_row left.now right.now k)) }
 {
     let columns = before + left.rows.cols() + right.rows.cols() + after;
-    let mut row = Vec::with_capacity(alloc, columns)?;
-    push_zeros(alloc, before, &mut row)?;
-    push_side(alloc, left, k, &mut row)?;
-    push_side(alloc, right, k, &mut row)?;
-    push_zeros(alloc, after, &mut row)?;
+    let mut row = vec![in alloc; 0; columns]?;
+    put_sides(left, right, k, before, after, &mut row);
     Ok(row)
 }
