@@ -1,5 +1,5 @@
 -- What a run owes, from what was read and written.
-use Rattle.std.proofs.Common.{◌≡◌, ◌⊎◌, inl, inr, ℕ, ◌+◌, ◌≤◌, ◌<◌, Bool, true, false, List, [], ◌++◌, length, take, Option, Some, None, refl, sym, ap, ◌∙◌, subst, arith}
+use Rattle.std.proofs.Common.{◌≡◌, ◌⊎◌, inl, inr, ℕ, ◌+◌, ◌≤◌, Bool, true, false, List, [], ◌++◌, length, Option, Some, None, refl, sym, ap, ◌∙◌, subst, arith}
 use Rattle.std.specs.Io.KnownBytes.{Appends, Consumes, IsAtEnd, Keeps}
 use Rattle.std.proofs.KnownBytes.{Appends-trans}
 use Rattle.std.proofs.lemmas.List.{append-nil, append_assoc, length-append, take_all}
@@ -9,17 +9,16 @@ use Rattle.mm_base.specs.declared.status.Status.{Status}
 use Rattle.mm_base.specs.declared.status.Status.TheVariants as ends
 use Rattle.mm_base.proofs.FrontLaws.{front_after, front_more}
 use Rattle.mm_lines.specs.Fronts.{IsFront}
-use Rattle.mm_lines.specs.Lines.{is_over, lines_of, most_bytes, settled}
+use Rattle.mm_lines.specs.Lines.{lines_of, most_bytes, settled}
 use Rattle.mm_job.specs.Header.{header, header_lines, parts}
 use Rattle.mm_job.specs.Jobs.{Grew, GrewByFront, JobState, progress, with_piece}
-use Rattle.mm_job.specs.Laws.{Grows, IsFinal}
 use Rattle.mm_job.specs.Output.{output, output_lines, settled_output, settled_lines, told, end_of}
 use Rattle.mm_job.specs.declared.progress.JobFault.{JobFault}
 use Rattle.mm_job.specs.declared.progress.JobFault.TheVariants as fault
 use Rattle.mm_job.specs.declared.progress.Progress.TheVariants.{Ended}
 use Rattle.mm_job.proofs.GrowthLaws.{output_grows, over_is_final}
 use Rattle.mm_cli.specs.Runs.{Answers, IsCut, IsEnd, IsEnough, Ran, WritesFront, cut}
-use Rattle.mm_cli.specs.Going.{SoFar}
+use Rattle.mm_cli.specs.Going.{IsRead, SoFar}
 use Rattle.mm_cli.proofs.EndedLaws.{end_ends, ended_ends, ended_is_enough}
 use Rattle.mm_job.proofs.JobLaws.{ended_is_final}
 
@@ -254,21 +253,15 @@ at_first limit a h = record {
 pub not_a_fault : (limit : ℕ) (text : List ℕ) (s : Status) → progress text limit ≡ Ended s → IsCut s → ⊥
 not_a_fault limit text s e c = end_not_cut s (ended_ends limit text s e) c
 
--- ---- where the loop stops
+-- ---- where reading stops
 
--- The loop stops where nothing is left, or where one byte more than is used was taken.
-pub record At (limit : ℕ) (a b h k : Option (List ℕ)) (job : JobState) : Type 0 where
-  pub far : SoFar limit a b h k job.text
-  pub stop : IsAtEnd b ⊎ (length job.text ≡ most_bytes + 1)
-  pub same : job.limit ≡ limit
-
-pub finished : (limit : ℕ) (a b h k m : Option (List ℕ)) (job : JobState) (s : Status) → At limit a b h k job
+pub finished : (limit : ℕ) (a b h k m : Option (List ℕ)) (job : JobState) (s : Status) → IsRead limit a b h k job
     → s ≡ end_of job.text job.limit → Grew k m (settled_output job.text job.limit) (output job.text job.limit) → Ran limit a b h m s
 finished limit a b h k m job s at e grew =
     ran_finished limit a b h k m job.text s at.far at.stop (e ∙ ap (end_of job.text) at.same)
     (subst (λ n. Grew k m (settled_output job.text n) (output job.text n)) at.same grew)
 
-pub unfinished : (limit : ℕ) (a b h k m : Option (List ℕ)) (job : JobState) (e : JobFault) → At limit a b h k job
+pub unfinished : (limit : ℕ) (a b h k m : Option (List ℕ)) (job : JobState) (e : JobFault) → IsRead limit a b h k job
     → GrewByFront k m (settled_output job.text job.limit) (output job.text job.limit) → Ran limit a b h m (cut e)
 unfinished limit a b h k m job e at grew =
     ran_unfinished limit a b h k m job.text e at.far at.stop
@@ -276,7 +269,7 @@ unfinished limit a b h k m job e at grew =
 
 -- all bytes that are used, and one more
 pub at_limit : (limit : ℕ) (a b h k : Option (List ℕ)) (job : JobState) (taken : ℕ) → SoFar limit a b h k job.text → length job.text ≡ taken
-    → job.limit ≡ limit → most_bytes + 1 ≤ taken → At limit a b h k job
+    → job.limit ≡ limit → most_bytes + 1 ≤ taken → IsRead limit a b h k job
 at_limit limit a b h k job taken far count same full = record {
   far = far;
   stop = inr (let l : length job.text ≤ most_bytes + 1 = far.size in omega (arith, count, full, l));
@@ -285,8 +278,8 @@ at_limit limit a b h k job taken far count same full = record {
 
 -- the end of the source
 pub at_end : (limit : ℕ) (a b h k : Option (List ℕ)) (old new : JobState) → new ≡ old → IsAtEnd b → old.limit ≡ limit
-    → SoFar old.limit a b h k old.text → At limit a b h k new
-at_end limit a b h k old new e stop same far = subst (λ j. At limit a b h k j) (sym e) (record {
+    → SoFar old.limit a b h k old.text → IsRead limit a b h k new
+at_end limit a b h k old new e stop same far = subst (λ j. IsRead limit a b h k j) (sym e) (record {
   far = subst (λ n. SoFar n a b h k old.text) same far;
   stop = inl stop;
   same = same;

@@ -1,9 +1,9 @@
 //! The loop that reads a job and writes its answers.
-ghost use Rattle.std.specs.Prelude.{◌≡◌, ◌≤◌, ◌<◌, ◌+◌, ℕ, List, length, true};
+ghost use Rattle.std.specs.Prelude.{◌≡◌, ◌≤◌, ◌<◌, ◌+◌, [], ℕ, List, length, true, Some, IfSome, IfNone};
 ghost use Rattle.std.specs.declared.option.Option.{Option};
 ghost use Rattle.std.specs.Io.KnownBytes.{IsAtEnd};
 ghost use Rattle.mm_base.specs.declared.status.Status.{Status};
-ghost use Rattle.mm_cli.specs.Going.{SoFar};
+ghost use Rattle.mm_cli.specs.Going.{IsRead, SoFar};
 ghost use Rattle.mm_lines.specs.Lines.{most_bytes};
 ghost use Rattle.mm_base.specs.Causes.{Rose};
 ghost use Rattle.mm_base.specs.declared.status.Status.TheVariants as ends;
@@ -81,7 +81,62 @@ fn read_piece<S: Source, K: Sink, L: Ledger>(
     }
 }
 
-/// Reads the job in the source, piece by piece, and writes what each piece settles before it reads again.
+/// Reads piece by piece, and writes what each piece settles before it reads again, until the source has no more, or one byte more
+/// than is used was taken. The status where the run ends before.
+fn read_pieces<S: Source, K: Sink, L: Ledger>(
+    alloc: Global,
+    job: &mut Job,
+    source: &mut S,
+    sink: &mut K,
+    steps: &mut Steps<L>,
+) -> Option<Status>
+    requires live { job.old.live ≡ true }
+    requires new { job.old.text ≡ [] }
+    ensures stopped { IfSome result (λ s. Ran job.old.limit (S.left source.old) (S.left source.new) (K.held sink.old) (K.held sink.new) s) }
+    ensures all { IfNone result ((job.new.live ≡ true) × IsRead job.old.limit (S.left source.old) (S.left source.new) (K.held sink.old) (K.held sink.new) job.new) }
+    ensures read_fault { result ≡ Some ends.ReadFault → Rose (S.faults source.old) (S.faults source.new) }
+    ensures write_later { K.faults sink.old ≤ K.faults sink.new }
+    ensures write_fault { result ≡ Some ends.WriteFault → Rose (K.faults sink.old) (K.faults sink.new) }
+    ensures steps { steps.new ≡ steps.old }
+{
+    let mut buffer = [0u8; PIECE];
+    let mut taken = 0;
+    'pieces: while taken < MOST_BYTES {
+        let want = PIECE.min(MOST_BYTES - taken);
+        match read_piece(alloc, job, &mut buffer[..want], source, sink, steps) {
+            Step::End => return None,
+            Step::More(count) => taken += count,
+            Step::Stop(status) => return Some(status),
+        }
+    }
+    None
+}
+
+/// Answers the job that has read nothing yet: reads its text piece by piece, and then writes what the end of the text settles.
+fn answer<S: Source, K: Sink, L: Ledger>(
+    alloc: Global,
+    job: &mut Job,
+    source: &mut S,
+    sink: &mut K,
+    steps: &mut Steps<L>,
+) -> Status
+    requires live { job.old.live ≡ true }
+    requires new { job.old.text ≡ [] }
+    ensures run { Ran job.old.limit (S.left source.old) (S.left source.new) (K.held sink.old) (K.held sink.new) result }
+    ensures read_fault { result ≡ ends.ReadFault → Rose (S.faults source.old) (S.faults source.new) }
+    ensures write_fault { result ≡ ends.WriteFault → Rose (K.faults sink.old) (K.faults sink.new) }
+    ensures steps { steps.new ≡ steps.old }
+{
+    if let Some(status) = read_pieces(alloc, job, source, sink, steps) {
+        return status;
+    }
+    match job.finish(alloc, sink, steps) {
+        Ok(status) => status,
+        Err(fault) => cut(fault),
+    }
+}
+
+/// Answers the job in the source, with this limit on sizes.
 pub fn run<S: Source, K: Sink, L: Ledger>(
     alloc: Global,
     limit: u64,
@@ -97,18 +152,5 @@ pub fn run<S: Source, K: Sink, L: Ledger>(
     ensures steps { steps.new ≡ steps.old }
 {
     let mut job = Job::new(alloc, limit);
-    let mut buffer = [0u8; PIECE];
-    let mut taken = 0;
-    'pieces: while taken < MOST_BYTES {
-        let want = PIECE.min(MOST_BYTES - taken);
-        match read_piece(alloc, &mut job, &mut buffer[..want], source, sink, steps) {
-            Step::End => break 'pieces,
-            Step::More(count) => taken += count,
-            Step::Stop(status) => return status,
-        }
-    }
-    match job.finish(alloc, sink, steps) {
-        Ok(status) => status,
-        Err(fault) => cut(fault),
-    }
+    answer(alloc, &mut job, source, sink, steps)
 }

@@ -1,10 +1,9 @@
-use Rattle.std.proofs.Common.{◌≡◌, ◌≤◌, ◌<◌, ◌+◌, ◌++◌, inl, inr, List, length, take, Option, Ok, sym, ap, subst, ◌∙◌, arith, length-append}
+use Rattle.std.proofs.Common.{◌≡◌, ◌≤◌, ◌<◌, ◌+◌, ◌++◌, inl, inr, length, take, sym, ap, subst, ◌∙◌, arith, length-append}
 use Rattle.std.proofs.lemmas.Grind.{common_steps}
 use Rattle.mm_lines.specs.Lines.{most_bytes}
-use Rattle.mm_base.specs.declared.status.Status.{Status}
 use Rattle.mm_base.specs.declared.status.Status.TheVariants as ends
 use Rattle.mm_job.specs.Jobs.{with_piece}
-use Rattle.mm_cli.specs.Runs.{Ran, cut}
+use Rattle.mm_cli.specs.Runs.{Ran}
 use Rattle.mm_cli.specs.Going.{SoFar}
 use Rattle.mm_cli.proofs.StepLaws.{stop_is, more_is, more_ok, more_goes_on}
 use Rattle.mm_cli.proofs.RunLaws.{not_a_fault, ran_read_fault, further, ran_ended, ran_stopped, whole_piece}

@@ -1,13 +1,13 @@
 use Rattle.std.proofs.Common.{◌≡◌, ◌≤◌, ◌+◌, ◌-◌, true, length}
 use Rattle.mm_lines.specs.Lines.{most_bytes}
 use Rattle.mm_cli.specs.Going.{SoFar}
-use Rattle.mm_cli.proofs.reading.run.Given as goal
+use Rattle.mm_cli.proofs.reading.read_pieces.Given as goal
 
 abbrev pub invariant-pieces : goal.invariant-pieces
 invariant-pieces g l = record {
-  far : SoFar l.limit (g.S.Source.left l.initial.source) (g.S.Source.left l.source) (g.K.Sink.held l.initial.sink) (g.K.Sink.held l.sink) l.job.text;
+  far : SoFar l.initial.job.limit (g.S.Source.left l.initial.source) (g.S.Source.left l.source) (g.K.Sink.held l.initial.sink) (g.K.Sink.held l.sink) l.job.text;
   count : length l.job.text ≡ l.taken;
-  limit : l.job.limit ≡ l.limit;
+  limit : l.job.limit ≡ l.initial.job.limit;
   live : l.job.live ≡ true;
   source_later : g.S.Source.faults l.initial.source ≤ g.S.Source.faults l.source;
   sink_later : g.K.Sink.faults l.initial.sink ≤ g.K.Sink.faults l.sink;
