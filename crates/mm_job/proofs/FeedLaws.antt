@@ -127,6 +127,10 @@ pub on_err : {X E P : Type 0} (r : Result X E) → P → OnErr r P
 on_err (Ok x) p = tt
 on_err (Err e) p = p
 
+-- nothing is a front
+pub front_none : (held : Option (List ℕ)) (xs : List ℕ) → GrowsByFront held held xs
+front_none held xs = (0, Appends-nil held)
+
 -- ---- causes
 
 rose_before : (a b c : ℕ) → a ≤ b → Rose b c → Rose a c

@@ -10,12 +10,12 @@ ghost use Rattle.mm_job.specs.Heads.{IsMatrix};
 ghost use Rattle.mm_job.specs.Items.{closes, opens};
 
 use crate::edit::read_replace;
-use mm_base::{NameList, NoMemory};
+use mm_base::NoMemory;
 use mm_field::Field;
 use mm_lines::Line;
 use mm_matrix::Matrix;
 use mm_present::Named;
-use mm_words::{Refusal, Stop, add_elements, add_row, args, begins, is_word, too_long};
+use mm_words::{NameSet, Refusal, Stop, add_elements, add_row, args, begins, is_word, too_long};
 use std::alloc::Global;
 
 /// A block that has begun and is not ended.
@@ -24,7 +24,7 @@ pub enum Block {
     /// It is refused, whatever its other lines say.
     Denied(Refusal),
     /// A check that has these names so far.
-    Names(NameList),
+    Names(NameSet),
     /// A check that has these names, and these rows so far.
     Rows(Named),
 }
@@ -60,7 +60,7 @@ impl Block {
         if args(line).next().is_some() {
             return Block::Denied(Refusal::Syntax(line.number));
         }
-        Block::Names(NameList::new(alloc))
+        Block::Names(NameSet::new(alloc))
     }
 }
 
@@ -89,7 +89,7 @@ fn take_check_row(alloc: Global, f: Field, given: Named, line: &Line) -> Result<
 
 /// Takes a line of a check that is not its `end`, behind these names.
 #[tactic(auto, unfolding(crate::specs::Edits::check_names), using(crate::proofs::KeptLaws::elements_kept))]
-fn take_check_name(alloc: Global, f: Field, names: NameList, line: &Line) -> Result<Block, NoMemory>
+fn take_check_name(alloc: Global, f: Field, names: NameSet, line: &Line) -> Result<Block, NoMemory>
     requires inside { closes line.now ≡ false }
     requires different { IsDistinct bytes_eq names }
     ensures begun { IfOk result (λ b. IsBegun f b) }
@@ -105,6 +105,7 @@ fn take_check_name(alloc: Global, f: Field, names: NameList, line: &Line) -> Res
         };
     }
     let rows = Matrix::new(alloc, f, names.len());
+    let names = names.to_list(alloc)?;
     take_check_row(alloc, f, Named { names, rows }, line)
 }
 

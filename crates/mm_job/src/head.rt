@@ -11,7 +11,7 @@ ghost use Rattle.mm_words.specs.Readers.{Read};
 ghost use Rattle.mm_words.specs.TreeLines.{is_tree_part};
 
 use crate::tree_lines::{end_tree, take_part};
-use mm_base::NameList;
+use mm_base::NoMemory;
 use mm_field::Field;
 use mm_lines::Line;
 use mm_matrix::Matrix;
@@ -19,7 +19,7 @@ use mm_ops::OpTable;
 use mm_present::Named;
 use mm_tree::{Builder, Tree};
 use mm_words::{
-    Format, Stop, add_elements, add_operator, add_row, begins, is_tree_part, read_field,
+    Format, NameSet, Stop, add_elements, add_operator, add_row, begins, is_tree_part, read_field,
     read_format, read_tree, too_long,
 };
 use std::alloc::Global;
@@ -29,7 +29,7 @@ use std::alloc::Global;
 pub struct Elements {
     format: Format,
     field: Field,
-    names: NameList,
+    names: NameSet,
 }
 
 /// What the lines before the tree give.
@@ -98,7 +98,7 @@ fn take_field(alloc: Global, format: Format, line: &Line) -> Result<Elements, St
         Ok(field) => Ok(Elements {
             format,
             field,
-            names: NameList::new(alloc),
+            names: NameSet::new(alloc),
         }),
         Err(refusal) => Err(Stop::Refused(refusal)),
     }
@@ -120,12 +120,12 @@ fn take_elements(alloc: Global, elements: Elements, line: &Line) -> Result<Eleme
 impl Elements {
     /// The names are complete.
     #[tactic(auto, unfolding(crate::specs::Header::elements_part))]
-    fn into_given(self, alloc: Global, line: &Line) -> Given
+    fn into_given(self, alloc: Global, line: &Line) -> Result<Given, NoMemory>
         requires begins { begins (codes "elements") line.now ≡ false }
         requires different { IsDistinct bytes_eq self.names }
-        ensures given { IsGiven result }
-        ensures ops { result.ops ≡ [] }
-        ensures same { (rs : List Line) → elements_part (elements_of self) (line.now ∷ rs) ≡ rows_part (given_of result) (line.now ∷ rs) }
+        ensures given { IfOk result IsGiven }
+        ensures ops { IfOk result (λ g. g.ops ≡ []) }
+        ensures same { IfOk result (λ g. (rs : List Line) → elements_part (elements_of self) (line.now ∷ rs) ≡ rows_part (given_of g) (line.now ∷ rs)) }
     {
         let Elements {
             format,
@@ -133,12 +133,13 @@ impl Elements {
             names,
         } = self;
         let rows = Matrix::new(alloc, field, names.len());
-        Given {
+        let names = names.to_list(alloc)?;
+        Ok(Given {
             format,
             field,
             matrix: Named { names, rows },
             ops: OpTable::new(alloc),
-        }
+        })
     }
 }
 
@@ -277,7 +278,8 @@ fn take_names(alloc: Global, elements: Elements, line: &Line) -> Result<Step, St
     if begins(line, b"elements") {
         return Ok(Step::More(Head::Elements(take_elements(alloc, elements, line)?)));
     }
-    take_rows(alloc, elements.into_given(alloc, line), line)
+    let given = elements.into_given(alloc, line)?;
+    take_rows(alloc, given, line)
 }
 
 /// Takes the line of the format.

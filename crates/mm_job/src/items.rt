@@ -1,5 +1,7 @@
 //! The items of a job, line by line.
 ghost use Rattle.std.specs.Prelude.{◌≡◌, ◌∷◌, ◌++◌, [], List, IfOk, Some, None, true, false, codes, if◌then◌else◌};
+ghost use Rattle.std.specs.List.{IsDistinct};
+ghost use Rattle.std.specs.Str.{bytes_eq};
 ghost use Rattle.mm_lines.specs.declared.line.Line.{Line};
 ghost use Rattle.mm_job.specs.Blocks.{AreBegun, IsBegun, block_from, told_from, written};
 ghost use Rattle.mm_job.specs.Items.{closes};
@@ -18,6 +20,7 @@ use mm_base::{NoMemory, Text};
 use mm_lines::Line;
 use mm_matrix::Matrix;
 use mm_present::{Named, Verdict, compare};
+use mm_words::NameSet;
 use std::alloc::Global;
 
 /// Words alone.
@@ -41,6 +44,17 @@ fn compare_present(alloc: Global, session: &Session, given: &Named) -> Result<Sa
     }
 }
 
+/// Whether a matrix with these names and no rows agrees with the present tree.
+fn compare_names(alloc: Global, session: &Session, names: &NameSet) -> Result<Said, NoMemory>
+    requires tree { session.now.tree.f ≡ session.now.field }
+    requires different { IsDistinct bytes_eq names.now }
+    ensures { IfOk result (λ said. said ≡ Says (if is_same (compared session.now.field (record { names = names.now; rows = [] }) session.now.tree.tree) then codes "same" else codes "differs")) }
+{
+    let rows = Matrix::new(alloc, session.field, names.len());
+    let names = names.to_list(alloc)?;
+    compare_present(alloc, session, &Named { names, rows })
+}
+
 /// The reply to a block at its `end`.
 fn close(alloc: Global, session: &Session, block: Block, line: &Line) -> Result<Said, NoMemory>
     requires tree { session.now.tree.f ≡ session.now.field }
@@ -50,10 +64,7 @@ fn close(alloc: Global, session: &Session, block: Block, line: &Line) -> Result<
 {
     match block {
         Block::Denied(refusal) => Ok(Said::Refuses(refusal)),
-        Block::Names(names) => {
-            let rows = Matrix::new(alloc, session.field, names.len());
-            compare_present(alloc, session, &Named { names, rows })
-        }
+        Block::Names(names) => compare_names(alloc, session, &names),
         Block::Rows(given) => compare_present(alloc, session, &given),
     }
 }

@@ -1,6 +1,5 @@
 pub mod ReaderLaws
 mod DigitLaws
-mod TakenLaws
 mod SpacedLaws
 mod NumeralLaws
 mod TextLineLaws

@@ -2,42 +2,30 @@
 ghost use Rattle.std.specs.Prelude.{◌≡◌, true};
 ghost use Rattle.std.specs.List.{list_all};
 ghost use Rattle.mm_base.specs.Names.{is_name};
-ghost use Rattle.mm_tree.specs.NamedTree.{is_one_of};
 ghost use Rattle.mm_words.specs.Becoming.{Becomes};
 ghost use Rattle.mm_words.specs.HeaderLines.{elements_line, with_name, with_names};
 
-use crate::arguments::{args, is_text};
+use crate::arguments::args;
+use crate::name_set::NameSet;
 use crate::refusal::{Limit, Refusal, Stop};
-use mm_base::{Name, NameList};
+use mm_base::Name;
 use mm_lines::{Line, Tokens};
 use std::alloc::Global;
 
 /// The most names of a text.
 const MAX_NAMES: usize = 8192;
 
-fn is_taken(names: &NameList, name: Name) -> bool
-    ensures { result ≡ is_one_of name names.now }
-{
-    for k in 0..names.len() {
-        let other = names.at(k);
-        if is_text(name.bytes(), other.bytes()) {
-            return true;
-        }
-    }
-    false
-}
-
 /// Adds a name, where it is new and there is room.
-fn add_name(alloc: Global, number: u32, names: &mut NameList, name: Name) -> Result<(), Stop>
+fn add_name(alloc: Global, number: u32, names: &mut NameSet, name: Name) -> Result<(), Stop>
     ensures { Becomes result names.new (with_name number names.old name) }
 {
-    if is_taken(names, name) {
+    if names.contains(&name) {
         return Err(Stop::Refused(Refusal::Taken(name)));
     }
     if names.len() >= MAX_NAMES {
         return Err(Stop::Refused(Refusal::Over(Limit::Elements, number)));
     }
-    names.push(alloc, name)?;
+    names.insert(alloc, name)?;
     Ok(())
 }
 
@@ -56,7 +44,7 @@ fn are_names(tokens: Tokens<'_>) -> bool
 fn add_names(
     alloc: Global,
     number: u32,
-    names: &mut NameList,
+    names: &mut NameSet,
     tokens: Tokens<'_>,
 ) -> Result<(), Stop>
     requires { list_all is_name tokens ≡ true }
@@ -74,7 +62,7 @@ fn add_names(
 
 /// Adds the names of an `elements` line: all of them, or none where one is no name, or those before the one that is refused.
 #[tactic(auto, unfolding(crate::specs::HeaderLines::elements_line))]
-pub fn add_elements(alloc: Global, names: &mut NameList, line: &Line) -> Result<(), Stop>
+pub fn add_elements(alloc: Global, names: &mut NameSet, line: &Line) -> Result<(), Stop>
     ensures { Becomes result names.new (elements_line names.old line.now) }
 {
     if !are_names(args(line)) {

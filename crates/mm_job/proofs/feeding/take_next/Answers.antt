@@ -1,7 +1,9 @@
 use Rattle.std.proofs.Common.{sym}
 use Rattle.std.specs.Prelude.{None, Some}
 use Rattle.mm_job.specs.Feeding.{left}
-use Rattle.mm_job.proofs.FeedLaws.{all_left, fed_left, front_left, line_left, on_err, shorter, still_within}
+use Rattle.mm_job.specs.Output.{printed_all}
+use Rattle.mm_job.specs.Stages.{told_by}
+use Rattle.mm_job.proofs.FeedLaws.{all_left, fed_left, front_left, front_none, line_left, on_err, shorter, still_within}
 use Rattle.mm_job.proofs.feeding.take_next.Goals as goal
 
 pub returns-in_default-clause-all : goal.returns-in_default-clause-all
@@ -11,6 +13,10 @@ returns-in_default-clause-all g c = λ no_more.
 pub returns-in_default-clause-within : goal.returns-in_default-clause-within
 returns-in_default-clause-within g c =
     still_within c.args.framer.now c.next_line.new.self c.in_ok-line.field-0 None (sym c.in_default.is) c.in_ok-line.ensures.line c.in_ok-line.ensures.handed c.requires.within
+
+pub returns-in_err-line-clause-front : goal.returns-in_err-line-clause-front
+returns-in_err-line-clause-front g c =
+    on_err c.from_residual.result (λ e. front_none (g.K.Sink.held c.args.out.now) (printed_all (told_by c.args.limit c.args.course.stage e (left c.args.framer.now))))
 
 pub returns-in_err-course-clause-front : goal.returns-in_err-course-clause-front
 returns-in_err-course-clause-front g c =
