@@ -13,8 +13,8 @@ use Rattle.mm_field.proofs.VectorLaws.{zeros-vector_sum, one-multiple, IsVector-
 use Rattle.mm_field.proofs.CombinationLaws.{InSpan-vector_sum, InSpan-multiple, IsWithin-itself}
 use Rattle.mm_linear.specs.LeftRows.{Leads, Clear, IsLeftBasis}
 use Rattle.mm_linear.proofs.BasisLaws.{ended, less_and_more}
-use Rattle.mm_linear.proofs.PivotLaws.{cut-ended, last-ended, take-shorter, lead_of_combination}
-use Rattle.mm_linear.proofs.LeftUnique.{entry_of_cut, zero_at_leads, leads_above}
+use Rattle.mm_linear.proofs.PivotLaws.{cut-ended, last-ended, take-shorter, lead_of_combination, entry_of_cut, count_leads}
+use Rattle.mm_linear.proofs.LeftUnique.{zero_at_leads, leads_above}
 use Rattle.std.specs.declared.vec.Vec.{Vec}
 use Rattle.std.proofs.lemmas.List.{length-map, length-append, length-replicate}
 use Rattle.std.proofs.lemmas.List.Elements.{All-filter, All-append}
@@ -51,12 +51,6 @@ lead_from k v l z one =
 pub lead_zeros : (k : ℕ) (v : List ℕ) → HasLead k v → list_all (λ d. d == 0) (take k v) ≡ true
 lead_zeros k v h =
     ap (list_all (λ d. d == 0)) (sym (take-shorter k (suc k) v (omega arith)) ∙ ap (take k) h ∙ cut-ended k k (omega arith)) ∙ zeros_all k
-
-as_many : (n from : ℕ) (rows : List (List ℕ)) (ks : List ℕ) → Leads n from rows ks → length rows ≡ length ks
-as_many n from [] [] h = refl
-as_many n from [] (x ∷ ks) h = absurd h
-as_many n from (v ∷ rows) [] h = absurd h
-as_many n from (v ∷ rows) (x ∷ ks) h = ap suc (as_many n (suc x) rows ks h.3)
 
 lead_of_row : (n from : ℕ) (rows : List (List ℕ)) (ks : List ℕ) → Leads n from rows ks → (i : ℕ) → i < length ks →
     HasLead (get_or ks i 0) (get_or rows i [])
@@ -122,7 +116,7 @@ no_difference f t v w hv hw e =
 -- what a row and its lead are, in the basis of the listed space
 module _ (f : Field) (t : ℕ) (vs rows : List (List ℕ)) (sp : IsSpace f t vs) (known : IsLeftBasis f t vs rows) where
   count_is : length rows ≡ length known.leads
-  count_is = as_many t 0 rows known.leads known.echelon
+  count_is = count_leads t 0 rows known.leads known.echelon
 
   -- a vector of the space is in the span of the basis, and a row of the basis is in the space
   inside : (i : ℕ) → i < length vs → InSpan f t rows (get_or vs i [])

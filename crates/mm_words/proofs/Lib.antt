@@ -1,9 +1,10 @@
 pub mod ReaderLaws
-mod DigitLaws
+pub mod DigitLaws
 mod TakenLaws
 mod SpacedLaws
 mod NumeralLaws
 mod TextLineLaws
 mod WrittenLineLaws
 mod WrittenTreeLaws
+pub mod ReadingLaws
 mod ReadTreeLaws
