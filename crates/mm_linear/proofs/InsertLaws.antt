@@ -7,7 +7,7 @@ use Rattle.mm_field.specs.declared.Field.{Field}
 use Rattle.mm_field.specs.Digits.{order, plus, times, negative, inverse}
 use Rattle.mm_field.specs.Vectors.{zeros, vector_sum, multiple, combination, IsVector, AreVectors, InSpan, IsWithin, SameRowSpace}
 use Rattle.mm_field.proofs.Tables.{plus_comm, times_comm, times-zero, negative_below, plus-negative, negative-times, plus_zero_digit, times_one_digit, times-inverse, zero_digit, one_digit}
-use Rattle.mm_field.proofs.VectorLaws.{get_or-vector_sum, get_or-multiple, length-multiple, vector_sum_comm, vector_sum_assoc, opposite-vector_sum, vector_sum-zeros, zeros-vector_sum, zero-multiple, one-multiple, multiple-times, multiple-plus, IsVector-vector_sum, IsVector-multiple}
+use Rattle.mm_field.proofs.VectorLaws.{get_or-multiple, length-multiple, vector_sum_comm, vector_sum_assoc, opposite-vector_sum, vector_sum-zeros, zeros-vector_sum, zero-multiple, one-multiple, multiple-times, multiple-plus, IsVector-vector_sum, IsVector-multiple, sum_entry}
 use Rattle.mm_field.proofs.CombinationLaws.{zeros_twice, IsVector-combination, IsWithin-itself, InSpan-vector_sum, InSpan-multiple, InSpan-zeros, InSpan-first, InSpan-one_more, InSpan-combination}
 use Rattle.mm_linear.specs.Echelons.{entry, IsEchelon}
 use Rattle.mm_linear.specs.Eliminate.{residue, cleared, inserted}
@@ -22,13 +22,7 @@ IsVector-residue f n v rows h hv =
 -- an entry of the residue
 pub residue_entry : (f : Field) (n : ℕ) (v : List ℕ) (rows : List (List ℕ)) → AreVectors f n rows → IsVector f n v → (j : ℕ) → j < n →
     get_or (residue f n v rows) j 0 ≡ plus f (get_or v j 0) (times f (negative f 1) (get_or (combination f n v rows) j 0))
-residue_entry f n v rows h hv j l =
-    let hc = IsVector-combination f n v rows h in
-    let lv : length v ≡ n = hv.len in
-    let lc : length (combination f n v rows) ≡ n = hc.len in
-    let lm = length-multiple f (negative f 1) (combination f n v rows) in
-    get_or-vector_sum f v (multiple f (negative f 1) (combination f n v rows)) j (lv ∙ sym lc ∙ sym lm) (omega arith)
-    ∙ ap (λ x. plus f (get_or v j 0) x) (get_or-multiple f (negative f 1) (combination f n v rows) j (omega arith))
+residue_entry f n v rows h hv j l = sum_entry f n (negative f 1) v (combination f n v rows) j hv.len (IsVector-combination f n v rows h).len l
 
 -- the residue is zero where a row ends
 pub residue_at_pivot : (f : Field) (n : ℕ) (v : List ℕ) (rows : List (List ℕ)) → IsEchelon f n rows → IsVector f n v →
@@ -84,12 +78,7 @@ pub record IsNewRow (f : Field) (n : ℕ) (rows : List (List ℕ)) (p : ℕ) (w 
 
 pub cleared_entry : (f : Field) (n p : ℕ) (w row : List ℕ) → IsVector f n w → IsVector f n row → (j : ℕ) → j < n →
     get_or (cleared f p w row) j 0 ≡ plus f (get_or row j 0) (times f (negative f (get_or row p 0)) (get_or w j 0))
-cleared_entry f n p w row hw hr j l =
-    let lw : length w ≡ n = hw.len in
-    let lr : length row ≡ n = hr.len in
-    let lm = length-multiple f (negative f (get_or row p 0)) w in
-    get_or-vector_sum f row (multiple f (negative f (get_or row p 0)) w) j (lr ∙ sym lw ∙ sym lm) (omega arith)
-    ∙ ap (λ x. plus f (get_or row j 0) x) (get_or-multiple f (negative f (get_or row p 0)) w j (omega arith))
+cleared_entry f n p w row hw hr j l = sum_entry f n (negative f (get_or row p 0)) row w j hr.len hw.len l
 
 pub IsVector-cleared : (f : Field) (n p : ℕ) (w row : List ℕ) → IsVector f n w → IsVector f n row →
     IsVector f n (cleared f p w row)
@@ -167,7 +156,7 @@ inserted_pivot f n p w rows h new i l =
     ]
 
 -- the digit of a cleared row at p
-cleared_at : (f : Field) (a : ℕ) (b : ℕ) → b ≡ 1 → plus f a (times f (negative f a) b) ≡ 0
+pub cleared_at : (f : Field) (a : ℕ) (b : ℕ) → b ≡ 1 → plus f a (times f (negative f a) b) ≡ 0
 cleared_at f a b e =
     ap (λ x. plus f a (times f (negative f a) x)) e
     ∙ ap (λ x. plus f a x) (times_one_digit f (negative f a) (negative_below f a))

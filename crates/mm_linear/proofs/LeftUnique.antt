@@ -6,13 +6,14 @@ use Rattle.std.proofs.lemmas.List.Elements.{All-nil}
 use Rattle.mm_field.specs.declared.Field.{Field}
 use Rattle.mm_field.specs.Digits.{plus, times, negative}
 use Rattle.mm_field.specs.Vectors.{zeros, vector_sum, multiple, AreVectors, InSpan, IsWithin, SameRowSpace, IsVector}
-use Rattle.mm_field.proofs.Tables.{times_one_digit, times-zero, plus-negative, plus_zero_digit, zero_digit, negative_below}
-use Rattle.mm_field.proofs.VectorLaws.{zeros-vector_sum, one-multiple, IsVector-multiple, get_or-vector_sum, get_or-multiple}
+use Rattle.mm_field.proofs.Tables.{times-zero}
+use Rattle.mm_field.proofs.VectorLaws.{zeros-vector_sum, one-multiple, sum_entry}
 use Rattle.mm_field.proofs.CombinationLaws.{first_row, other_rows, combination-none, InSpan-vector_sum, InSpan-multiple, IsWithin-itself}
 use Rattle.mm_linear.specs.LeftRows.{Leads, Clear, reduced_basis}
 use Rattle.mm_linear.proofs.BasisLaws.{ended, less_and_more}
 use Rattle.mm_linear.proofs.PivotLaws.{cut-ended, last-ended, not_zeros, take-shorter, late_rows, lead_of_combination, entry_of_cut, tail_when_zero}
 use Rattle.mm_linear.proofs.LeftRowsLaws.{reduced_basis_is}
+use Rattle.mm_linear.proofs.InsertLaws.{cleared_at, sum_of_zeros}
 
 pub zero_at_leads : (f : Field) (n from : ℕ) (rows : List (List ℕ)) (ks : List ℕ) → Leads n from rows ks → AreVectors f n rows →
     (w : List ℕ) → InSpan f n rows w → ((i d : ℕ) → i < length ks → get_or w (get_or ks i d) 0 ≡ 0) → w ≡ zeros n
@@ -101,17 +102,14 @@ left_unique f n a b (v ∷ vs) (w ∷ us) (x ∷ ks) (y ∷ ls) h c g d hr hs sa
     ) in
     let leads : ks ≡ ls = leads_same n (suc x) (suc x) us ks ls (subst (λ rs. Leads n (suc x) rs ks) tails h.3) g'.3 in
     let minus = multiple f (negative f 1) w in
-    let hm = IsVector-multiple f n (negative f 1) w hw.len in
     let z = vector_sum f v minus in
-    let entry_z = λ (k : ℕ) (l : k < n). get_or-vector_sum f v minus k (hv.len ∙ sym hm.len) (omega (arith, hm.len))
-    ∙ ap (λ t. plus f (get_or v k 0) t) (get_or-multiple f (negative f 1) w k (omega (arith, hw.len))) in
+    let entry_z = λ (k : ℕ) (l : k < n). sum_entry f n (negative f 1) v w k hv.len hw.len l in
     let z_all = InSpan-vector_sum f n (w ∷ us) v minus (same.0 0 [] (omega arith))
     (InSpan-multiple f n (negative f 1) (w ∷ us) w (IsWithin-itself f n (w ∷ us) hs 0 [] (omega arith))) in
     let at_x : get_or z x 0 ≡ 0 =
     entry_z x h.1
-    ∙ ap₂ (λ s t. plus f s (times f (negative f 1) t)) (entry_of_cut x v (ended x 1) h.2 ∙ last-ended x 1) (entry_of_cut x w (ended x 1) g'.2 ∙ last-ended x 1)
-    ∙ ap (λ t. plus f 1 t) (times_one_digit f (negative f 1) (negative_below f 1))
-    ∙ plus-negative f 1 in
+    ∙ ap (λ s. plus f s (times f (negative f 1) (get_or w x 0))) (entry_of_cut x v (ended x 1) h.2 ∙ last-ended x 1)
+    ∙ cleared_at f 1 (get_or w x 0) (entry_of_cut x w (ended x 1) g'.2 ∙ last-ended x 1) in
     let z_tail = tail_when_zero f n b x w us ls g' hs z z_all at_x in
     let z_zero = zero_at_leads f n (suc x) us ls g'.3 hus z z_tail
     (λ i e l.
@@ -119,9 +117,7 @@ left_unique f n a b (v ∷ vs) (w ∷ us) (x ∷ ks) (y ∷ ls) h c g d hr hs sa
     let v_zero : get_or v k 0 ≡ 0 = (subst (λ js. (i e : ℕ) → i < length js → get_or v (get_or js i e) 0 ≡ 0) leads c.0) i e l in
     let w_zero : get_or w k 0 ≡ 0 = d.0 i e l in
     entry_z k (leads_above n (suc x) us ls g'.3 i e l).1
-    ∙ ap₂ (λ s t. plus f s (times f (negative f 1) t)) v_zero w_zero
-    ∙ ap (λ t. plus f 0 t) (times-zero f (negative f 1))
-    ∙ plus_zero_digit f 0 (zero_digit f)) in
+    ∙ sum_of_zeros f (get_or v k 0) _ v_zero (ap (times f (negative f 1)) w_zero ∙ times-zero f (negative f 1))) in
     let heads : v ≡ w =
     sym (less_and_more f n 1 v w hv hw.len)
     ∙ ap₂ (λ s t. vector_sum f s t) z_zero (one-multiple f w hw.digits)

@@ -3,9 +3,9 @@ use Rattle.std.proofs.Common.{ℕ, zero, suc, ◌+◌, ◌<◌, ◌≤◌, ◌�
 use Rattle.std.proofs.lemmas.List.Elements.{All-cons, All-append, All-take, All-drop, All-head, All-tail}
 use Rattle.std.specs.List.{All}
 use Rattle.mm_field.specs.declared.Field.{Field}
-use Rattle.mm_field.specs.Digits.{plus, times, negative}
+use Rattle.mm_field.specs.Digits.{times, negative}
 use Rattle.mm_field.specs.Vectors.{zeros, vector_sum, multiple, IsVector, AreVectors, InSpan, IsWithin, SameRowSpace}
-use Rattle.mm_field.proofs.Tables.{times-zero, times_one_digit, plus-negative, plus_zero_digit, negative_below, zero_digit, one_digit}
+use Rattle.mm_field.proofs.Tables.{times-zero, one_digit}
 use Rattle.mm_field.proofs.VectorLaws.{vector_sum-zeros, multiple-zeros}
 use Rattle.mm_field.proofs.CombinationLaws.{first_row, other_rows, take-vector_sum, take-multiple, InSpan-vector_sum, InSpan-multiple, InSpan-first, InSpan-one_more, InSpan-within, IsWithin-itself}
 use Rattle.mm_linear.specs.Eliminate.{cleared}
@@ -14,7 +14,7 @@ use Rattle.mm_linear.proofs.BasisLaws.{ended, IsVector-ended, less_and_more}
 use Rattle.mm_linear.proofs.PivotLaws.{cut-ended, last-ended, take-shorter, count_leads, entry_of_cut}
 use Rattle.mm_linear.proofs.EchelonLaws.{zero_not_one}
 use Rattle.mm_linear.proofs.LeftUnique.{leads_above}
-use Rattle.mm_linear.proofs.InsertLaws.{IsVector-cleared, cleared_entry}
+use Rattle.mm_linear.proofs.InsertLaws.{IsVector-cleared, cleared_entry, sum_of_zeros, cleared_at as cleared_digit}
 use Rattle.mm_matrix.specs.Rests.{AreReduced, IsNew, IsPlaceOf}
 
 -- ---- the new row
@@ -36,16 +36,13 @@ new_lead f n p w ks new = λ i d l e.
 cleared_at : (f : Field) (n p : ℕ) (w v : List ℕ) → IsVector f n w → IsVector f n v → p < n → get_or w p 0 ≡ 1 →
     get_or (cleared f p w v) p 0 ≡ 0
 cleared_at f n p w v hw hv l e =
-    let a = get_or v p 0 in
-    cleared_entry f n p w v hw hv p l ∙ ap (λ x. plus f a (times f (negative f a) x)) e
-    ∙ ap (λ x. plus f a x) (times_one_digit f (negative f a) (negative_below f a)) ∙ plus-negative f a
+    cleared_entry f n p w v hw hv p l ∙ cleared_digit f (get_or v p 0) (get_or w p 0) e
 
 cleared_kept : (f : Field) (n p j : ℕ) (w v : List ℕ) → IsVector f n w → IsVector f n v → j < n → get_or w j 0 ≡ 0 → get_or v j 0 ≡ 0 →
     get_or (cleared f p w v) j 0 ≡ 0
 cleared_kept f n p j w v hw hv l zw zv =
     let c = negative f (get_or v p 0) in
-    cleared_entry f n p w v hw hv j l ∙ ap₂ (λ x y. plus f x (times f c y)) zv zw
-    ∙ ap (λ x. plus f 0 x) (times-zero f c) ∙ plus_zero_digit f 0 (zero_digit f)
+    cleared_entry f n p w v hw hv j l ∙ sum_of_zeros f (get_or v j 0) _ zv (ap (times f c) zw ∙ times-zero f c)
 
 -- ---- places
 

@@ -1,19 +1,20 @@
 -- Reduced rows at their leads, and what is left of a vector after one more row.
-use Rattle.std.proofs.Common.{ℕ, zero, suc, ◌+◌, ◌<◌, ◌≡◌, List, [], ◌∷◌, length, get_or, sym, ap, ap₂, ◌∙◌, subst, arith, inl, inr}
+use Rattle.std.proofs.Common.{ℕ, zero, suc, ◌+◌, ◌<◌, ◌≡◌, List, [], ◌∷◌, length, get_or, sym, ap, ◌∙◌, subst, arith, inl, inr}
 use Rattle.std.proofs.Math.Nat.{eq-or-lt_of_le}
 use Rattle.std.proofs.lemmas.List.{get_or-replicate, get_or_default}
 use Rattle.std.proofs.lemmas.List.Elements.{All-cons}
 use Rattle.mm_field.specs.declared.Field.{Field}
-use Rattle.mm_field.specs.Digits.{order, plus, times, negative}
+use Rattle.mm_field.specs.Digits.{times, negative}
 use Rattle.mm_field.specs.Vectors.{zeros, vector_sum, multiple, IsVector, AreVectors, InSpan}
-use Rattle.mm_field.proofs.Tables.{times-zero, times_one_digit, plus-negative, plus_zero_digit, negative_below, zero_digit}
-use Rattle.mm_field.proofs.VectorLaws.{vector_sum_assoc, vector_sum-zeros, opposite-vector_sum, length-multiple, IsVector-vector_sum, get_or-vector_sum, get_or-multiple}
+use Rattle.mm_field.proofs.Tables.{times-zero}
+use Rattle.mm_field.proofs.VectorLaws.{vector_sum_assoc, vector_sum-zeros, opposite-vector_sum, length-multiple, IsVector-vector_sum, sum_entry}
 use Rattle.mm_field.proofs.CombinationLaws.{InSpan-vector_sum, InSpan-multiple, InSpan-first, InSpan-within}
 use Rattle.mm_linear.specs.LeftRows.{Leads}
 use Rattle.mm_linear.proofs.BasisLaws.{ended}
 use Rattle.mm_linear.proofs.PivotLaws.{last-ended, late_rows, count_leads, entry_of_cut}
 use Rattle.mm_linear.proofs.LeftUnique.{leads_above}
 use Rattle.mm_linear.proofs.SumLaws.{more_within}
+use Rattle.mm_linear.proofs.InsertLaws.{cleared_at, sum_of_zeros}
 use Rattle.mm_matrix.specs.Rests.{IsRest}
 
 -- ---- entries at the leads
@@ -62,17 +63,6 @@ rest_at_start f n rows ks v h hv = record {
   zero = λ k l. absurd (omega arith);
 }
 
-entry_of_step : (f : Field) (n c j : ℕ) (u r : List ℕ) → IsVector f n u → length r ≡ n → j < n →
-    get_or (vector_sum f u (multiple f c r)) j 0 ≡ plus f (get_or u j 0) (times f c (get_or r j 0))
-entry_of_step f n c j u r hu lr l =
-    let lu = hu.len in
-    let lm = length-multiple f c r in
-    get_or-vector_sum f u (multiple f c r) j (lu ∙ sym lr ∙ sym lm) (omega arith)
-    ∙ ap (λ x. plus f (get_or u j 0) x) (get_or-multiple f c r j (omega arith))
-
-digit_at : (f : Field) (n j : ℕ) (u : List ℕ) → IsVector f n u → j < n → get_or u j 0 < order f
-digit_at f n j u h l = h.digits j 0 (let e = h.len in omega arith)
-
 pub rest_step : (f : Field) (n i : ℕ) (rows : List (List ℕ)) (ks v u : List ℕ) → AreVectors f n rows → Leads n 0 rows ks → IsVector f n v →
     i < length rows → IsRestUpTo f n rows ks v u i →
     IsRestUpTo f n rows ks v (vector_sum f u (multiple f (negative f (get_or u (get_or ks i 0) 0)) (get_or rows i []))) (i + 1)
@@ -114,13 +104,12 @@ rest_step f n i rows ks v u h leads hv l rest =
         elim (eq-or-lt_of_le {n = k} {m = i} (omega arith)) [
           | inl e ↦
               subst (λ (x : ℕ). get_or (vector_sum f u (multiple f (negative f a) r)) (get_or ks x 0) 0 ≡ 0) (sym e)
-              (entry_of_step f n (negative f a) (get_or ks i 0) u r hu lr (leads_above n 0 rows ks leads i 0 (omega arith)).1
-              ∙ ap (λ x. plus f a (times f (negative f a) x)) (one_at_lead n 0 rows ks leads i l)
-              ∙ ap (λ x. plus f a x) (times_one_digit f (negative f a) (negative_below f a)) ∙ plus-negative f a)
+              (sum_entry f n (negative f a) u r (get_or ks i 0) hu.len lr (leads_above n 0 rows ks leads i 0 (omega arith)).1
+              ∙ cleared_at f a (get_or r (get_or ks i 0) 0) (one_at_lead n 0 rows ks leads i l))
           | inr s ↦
-              entry_of_step f n (negative f a) (get_or ks k 0) u r hu lr below
-              ∙ ap₂ (λ x y. plus f x (times f (negative f a) y)) (before k s) (zero_at_earlier n 0 rows ks leads k i s l)
-              ∙ ap (λ x. plus f 0 x) (times-zero f (negative f a)) ∙ plus_zero_digit f 0 (zero_digit f)
+              sum_entry f n (negative f a) u r (get_or ks k 0) hu.len lr below
+              ∙ sum_of_zeros f (get_or u (get_or ks k 0) 0) _ (before k s)
+              (ap (times f (negative f a)) (zero_at_earlier n 0 rows ks leads k i s l) ∙ times-zero f (negative f a))
         ]
 
 pub rest_at_end : (f : Field) (n : ℕ) (rows : List (List ℕ)) (ks v rest : List ℕ) → Leads n 0 rows ks →

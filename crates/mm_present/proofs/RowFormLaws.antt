@@ -8,7 +8,7 @@ use Rattle.mm_field.specs.declared.Field.{Field}
 use Rattle.mm_field.specs.Digits.{plus, times}
 use Rattle.mm_field.specs.Vectors.{zeros, vector_sum, multiple, combination, through, IsVector, AreVectors}
 use Rattle.mm_field.proofs.Tables.{times_comm}
-use Rattle.mm_field.proofs.VectorLaws.{get_or-vector_sum, get_or-multiple, length-multiple}
+use Rattle.mm_field.proofs.VectorLaws.{step_entry}
 use Rattle.mm_field.proofs.CombinationLaws.{IsVector-combination, combination-through, first_row, other_rows}
 use Rattle.mm_field.proofs.PartLaws.{AreVectors-map}
 use Rattle.mm_linear.specs.Coordinates.{coordinates, in_coordinates, IsBasis}
@@ -54,11 +54,9 @@ by_rows f r k w j (v ∷ m) cs hm hc lk lw =
     let long : length u ≡ w = hu.len in
     let made : length (combination f r (take (length m) (drop (j + 1) u)) m) ≡ r =
     (IsVector-combination f r (take (length m) (drop (j + 1) u)) m (other_rows f r v m hm)).len in
-    let one : length (multiple f (get_or u j 0) v) ≡ length v = length-multiple f (get_or u j 0) v in
     ap (λ (ds : List ℕ). get_or (combination f r ds (v ∷ m)) k 0) (take-next (length m) j u (omega arith))
-    ∙ get_or-vector_sum f (multiple f (get_or u j 0) v) (combination f r (take (length m) (drop (j + 1) u)) m) k
-    (one ∙ hv ∙ sym made) (subst (λ n. k < n) (sym made) lk)
-    ∙ ap (λ d. plus f d (rest u)) (get_or-multiple f (get_or u j 0) v k (subst (λ n. k < n) (sym hv) lk) ∙ times_comm f (get_or u j 0) (get_or v k 0)) in
+    ∙ step_entry f r (get_or u j 0) v (combination f r (take (length m) (drop (j + 1) u)) m) k hv made lk
+    ∙ ap (λ d. plus f d (rest u)) (times_comm f (get_or u j 0) (get_or v k 0)) in
     map_same (λ u. IsVector f w u) whole (λ u. plus f (times f (get_or v k 0) (get_or u j 0)) (rest u)) cs hc each
     ∙ sym (sum_of_values f (get_or v k 0) (λ u. get_or u j 0) rest cs)
     ∙ ap (λ row. vector_sum f (multiple f (get_or v k 0) (row_of cs j)) row)
