@@ -2,7 +2,7 @@
 use Rattle.std.proofs.Common.{ℕ, ◌≡◌, ◌-◌, ◌&&◌, ◌==◌, List, ◌++◌, length, replicate, take, Bool, true, false, refl, sym, ap, ap₂, ◌∙◌, subst}
 use Rattle.std.specs.Str.{bytes_eq}
 use Rattle.std.proofs.lemmas.Slice.Eq.{bytes_eq-Decides}
-use Rattle.std.proofs.lemmas.Bool.{and_parts, eqb-true, eq-eqb}
+use Rattle.std.proofs.lemmas.Bool.{and_parts, eqb-true, eq-eqb, both_ways}
 use Rattle.std.proofs.lemmas.List.{take_at}
 use Rattle.mm_base.specs.contracts.name.NamePartialEq.TheImpl.{eq-value}
 
@@ -10,15 +10,11 @@ use Rattle.mm_base.specs.contracts.name.NamePartialEq.TheImpl.{eq-value}
 abbrev pub padded : List ℕ → List ℕ
 padded a = a ++ replicate (16 - length a) 0
 
-same_bytes : (x y : List ℕ) → bytes_eq x y ≡ true → x ≡ y
+pub same_bytes : (x y : List ℕ) → bytes_eq x y ≡ true → x ≡ y
 same_bytes x y e = (bytes_eq-Decides x y).0 e
 
-bytes_same : (x : List ℕ) → bytes_eq x x ≡ true
+pub bytes_same : (x : List ℕ) → bytes_eq x x ≡ true
 bytes_same x = (bytes_eq-Decides x x).1 refl
-
-apart : (t : Bool) → t ≡ false → t ≡ true → ⊥
-apart true p r = cc
-apart false p r = cc
 
 -- bytes of one length are the same exactly where they are with zeros behind them
 pub padded_eq : (a b : List ℕ) → (bytes_eq (padded a) (padded b) && (length a == length b)) ≡ bytes_eq a b
@@ -38,7 +34,7 @@ padded_eq a b = go (bytes_eq a b) refl (bytes_eq (padded a) (padded b) && (lengt
         let same : a ≡ b =
         sym (take_at a (replicate (16 - length a) 0) (length a) refl) ∙ ap (take (length a)) whole
         ∙ take_at b (replicate (16 - length b) 0) (length a) (sym long) in
-        absurd (apart (bytes_eq a b) e (ap (bytes_eq a) (sym same) ∙ bytes_same a))
+        absurd (both_ways (bytes_eq a b) e (ap (bytes_eq a) (sym same) ∙ bytes_same a))
 
 -- names are equal exactly where their bytes are
 pub name_eq : (a b : List ℕ) → (eq-value).it a b ≡ bytes_eq a b

@@ -1,5 +1,5 @@
 -- A name's bytes with zeros behind them are the fields of that name.
-use Rattle.std.proofs.Common.{◌≡◌, ◌≤◌, ℕ, Bool, true, List, [], ◌∷◌, ◌++◌, length, drop, replicate, sym, ap, subst, ◌∙◌, arith, length-append, length-drop}
+use Rattle.std.proofs.Common.{◌≡◌, ◌≤◌, ℕ, true, List, [], ◌∷◌, ◌++◌, length, drop, replicate, sym, ap, subst, ◌∙◌, arith, length-append, length-drop}
 use Rattle.std.specs.List.{list_all}
 use Rattle.std.specs.Prelude.{nat_le, ◌&&◌}
 use Rattle.std.specs.Char.{is_ascii_lowercase}
@@ -11,7 +11,7 @@ use Rattle.mm_base.specs.Names.{is_name, is_name_byte}
 use Rattle.mm_base.specs.declared.name.Name.TheInside.{Inside}
 
 -- a name has at most 16 bytes
-name_short : (bs : List ℕ) → is_name bs ≡ true → length bs ≤ 16
+pub name_short : (bs : List ℕ) → is_name bs ≡ true → length bs ≤ 16
 name_short [] h = omega arith
 name_short (b ∷ bs) h =
     let front = (and_parts (is_ascii_lowercase b && nat_le (length bs) 15) (list_all is_name_byte bs) h).0 in

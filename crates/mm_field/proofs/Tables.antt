@@ -1,5 +1,5 @@
 -- Laws of the four fields, each by a test over the whole table.
-use Rattle.std.proofs.Common.{ℕ, ◌%◌, ◌<◌, ◌≡◌, ◌≢◌, inl, inr, Bool, true, ◌&&◌, ◌||◌, eqb, eqb-true, ltb, ltb-true, refl, arith, zero, suc, lit<}
+use Rattle.std.proofs.Common.{ℕ, ◌%◌, ◌<◌, ◌≡◌, ◌≢◌, inl, inr, Bool, true, ◌&&◌, ◌||◌, eqb, eqb-true, ltb, ltb-true, refl, arith, zero, suc, lit<, ◌≤◌}
 use Rattle.std.proofs.lemmas.Bool.{and_parts, or_cases, cases_eq}
 use Rattle.mm_field.specs.declared.Field.{Field}
 use Rattle.mm_field.specs.declared.Field.TheVariants.{Two, Three, Four, Five}
@@ -31,6 +31,12 @@ pub passes_at2 : (n : ℕ) (p : ℕ → ℕ → Bool) → passes_below n (λ a. 
     (a b : ℕ) → a < n → b < n → p a b ≡ true
 passes_at2 n p h a b la lb =
     passes_at n (λ b. p a b) (passes_at n (λ a. passes_below n (λ b. p a b)) h a la) b lb
+
+pub order-most : (f : Field) → order f ≤ 5
+order-most Two = omega arith
+order-most Three = omega arith
+order-most Four = omega arith
+order-most Five = omega arith
 
 pub digit_below : (f : Field) (a : ℕ) → a % order f < order f
 digit_below Two a = omega arith

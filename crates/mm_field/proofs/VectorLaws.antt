@@ -152,6 +152,13 @@ step_entry f n c v w j p q l =
     get_or-vector_sum f (multiple f c v) w j (length-multiple f c v ∙ p ∙ sym q) (omega arith)
     ∙ ap (λ x. plus f x (get_or w j 0)) (get_or-multiple f c v j (omega arith))
 
+-- the entry of the sum of a vector and a multiple
+pub sum_entry : (f : Field) (n c : ℕ) (v w : List ℕ) (j : ℕ) → length v ≡ n → length w ≡ n → j < n →
+    get_or (vector_sum f v (multiple f c w)) j 0 ≡ plus f (get_or v j 0) (times f c (get_or w j 0))
+sum_entry f n c v w j p q l =
+    get_or-vector_sum f v (multiple f c w) j (p ∙ sym q ∙ sym (length-multiple f c w)) (omega (arith, length-multiple f c w))
+    ∙ ap (λ x. plus f (get_or v j 0) x) (get_or-multiple f c w j (omega arith))
+
 -- adding 0 times a vector changes nothing
 pub add_no_multiple : (f : Field) (c : ℕ) (x y : List ℕ) → c ≡ 0 → length x ≡ length y → AreDigits f y →
     y ≡ vector_sum f y (multiple f c x)

@@ -9,7 +9,7 @@ use Rattle.mm_formula.specs.Repeats.{has}
 use Rattle.mm_formula.specs.Syntax.{Syntax, is_well_sorted}
 use Rattle.mm_formula.specs.Syntax.Syntax.{Const, Ind, Member, SameElem, Sub, SameSet, Not, Bin, Ex, All}
 use Rattle.mm_formula.specs.Scope.{without, unbound, outermost, slot_in, slotted, IsScoped}
-use Rattle.mm_formula.proofs.SameLaws.{same}
+use Rattle.mm_base.proofs.NameLaws.{same_bytes}
 use Rattle.mm_logic.specs.Marks.{mark}
 use Rattle.mm_logic.specs.Meaning.{WellSorted}
 use Rattle.mm_logic.specs.Formula as slot
@@ -37,7 +37,7 @@ agree_more kinds binders v a w h =
     let k : ℕ = length binders in
     let M : ℕ → Bool = mark k (not (is_set v)) kinds in
     elim (cases_Bool (bytes_eq w v)) [
-      | inl t ↦ ap (λ (q : Bool). M (if q then k else slot_in binders w)) t ∙ mark_same k (not (is_set v)) kinds ∙ ap (λ (z : List ℕ). not (is_set z)) (sym (same w v t))
+      | inl t ↦ ap (λ (q : Bool). M (if q then k else slot_in binders w)) t ∙ mark_same k (not (is_set v)) kinds ∙ ap (λ (z : List ℕ). not (is_set z)) (sym (same_bytes w v t))
       | inr f ↦ let g : has w binders ≡ true = (rw f at h) in
           ap (λ (q : Bool). M (if q then k else slot_in binders w)) f
           ∙ mark_other k (slot_in binders w) (not (is_set v)) kinds (slot_below binders w g) ∙ a w g
@@ -93,7 +93,7 @@ pub agree_outermost : (free : Option (List ℕ)) → list_all is_set (outermost 
 agree_outermost None h v b = absurd (let e : false ≡ true = b in cc)
 agree_outermost (Some w) h v b =
     elim (or_cases (bytes_eq v w) false b) [
-      | inl t ↦ sym (ap (λ (z : List ℕ). not (is_set z)) (same v w t) ∙ ap not (and_parts (is_set w) true h).0)
+      | inl t ↦ sym (ap (λ (z : List ℕ). not (is_set z)) (same_bytes v w t) ∙ ap not (and_parts (is_set w) true h).0)
       | inr e ↦ absurd (let f : false ≡ true = e in cc)
     ]
 

@@ -5,7 +5,7 @@ use Rattle.std.specs.Char.{is_ascii_alphabetic}
 use Rattle.std.specs.List.{list_all, flat_map}
 use Rattle.std.specs.Str.{bytes_eq}
 use Rattle.std.proofs.Math.Seq.{take-append_seam, drop-append_seam}
-use Rattle.std.proofs.lemmas.Bool.{cases_Bool, and_parts, not-true}
+use Rattle.std.proofs.lemmas.Bool.{cases_Bool, and_parts, not-true, or_parts}
 use Rattle.std.proofs.lemmas.List.{append-nil}
 use Rattle.mm_formula.specs.Variables.{is_word_byte, is_word, is_reserved, is_var, is_set}
 use Rattle.mm_formula.specs.Repeats.{has, IsDistinct}
@@ -14,7 +14,7 @@ use Rattle.mm_formula.specs.Syntax.{is_well_sorted, IsProper}
 use Rattle.mm_formula.specs.declared.formula.Term.{Term}
 use Rattle.mm_formula.specs.declared.formula.Connective as joint
 use Rattle.mm_formula.specs.declared.formula.Connective.TheVariants as connective
-use Rattle.mm_formula.proofs.SameLaws.{same, same_swap, neither}
+use Rattle.mm_formula.proofs.SameLaws.{same_swap}
 use Rattle.mm_formula_text.specs.declared.token.Quantifier.TheVariants as quantifier
 use Rattle.mm_formula_text.specs.declared.token.Relation.TheVariants as relation
 use Rattle.mm_formula_text.specs.declared.token.Token.{Token}
@@ -26,6 +26,7 @@ use Rattle.mm_formula_text.specs.Canonical.{barred, term_text, between, canonica
 use Rattle.mm_formula_text.proofs.TokenLaws.{word_len, word_len-on, word_len-end, lexemes-word, lexemes-last, word_byte_is_no_blank}
 use Rattle.mm_formula_text.proofs.Precedence.{rank, left, right, result, combined, loosened}
 use Rattle.mm_formula_text.proofs.ReadsOnlyLaws.{left_below}
+use Rattle.mm_base.proofs.NameLaws.{same_bytes}
 
 -- ---- a word in a text
 
@@ -67,7 +68,7 @@ parts_of v h =
 pub no_sign : (v : List ℕ) (c : ℕ) → is_word v ≡ true → is_word (c ∷ []) ≡ false → bytes_eq v (c ∷ []) ≡ false
 no_sign v c w n = elim (cases_Bool (bytes_eq v (c ∷ []))) [
   | inr f ↦ f
-  | inl t ↦ absurd (let e : true ≡ false = sym w ∙ ap is_word (same v (c ∷ []) t) ∙ n in cc)
+  | inl t ↦ absurd (let e : true ≡ false = sym w ∙ ap is_word (same_bytes v (c ∷ []) t) ∙ n in cc)
 ]
 
 pub variable_token : (v : List ℕ) → is_var v ≡ true → token_of v ≡ Variable v
@@ -160,8 +161,8 @@ term_lexed whole (v ∷ vs) a rest h =
     ∙ sym (append_assoc (barred_tokens vs) (if whole then Bar ∷ Star ∷ [] else []) (tokens rest)))
 
 pub apart_from : (us vs : List (List ℕ)) (u v : List ℕ) → has u (us ++ v ∷ vs) ≡ false → bytes_eq u v ≡ false
-apart_from [] vs u v h = (neither (bytes_eq u v) (has u vs) h).0
-apart_from (w ∷ us) vs u v h = apart_from us vs u v (neither (bytes_eq u w) (has u (us ++ v ∷ vs)) h).1
+apart_from [] vs u v h = (or_parts (bytes_eq u v) (has u vs) h).0
+apart_from (w ∷ us) vs u v h = apart_from us vs u v (or_parts (bytes_eq u w) (has u (us ++ v ∷ vs)) h).1
 
 pub fresh : (us vs : List (List ℕ)) (v : List ℕ) → IsDistinct (us ++ v ∷ vs) → has v us ≡ false
 fresh [] vs v d = refl

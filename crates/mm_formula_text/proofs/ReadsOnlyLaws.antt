@@ -1,7 +1,7 @@
 -- The automaton reads no text but those that the grammar derives a formula from.
 use Rattle.std.proofs.Common.{◌≡◌, ℕ, ◌<◌, ◌≤◌, Bool, true, false, inl, inr, List, [], ◌∷◌, ◌++◌, Some, None, refl, sym, ap, ◌∙◌, subst, arith, append_assoc}
 use Rattle.std.specs.Prelude.{nat_lt}
-use Rattle.std.proofs.lemmas.Option.{option_and_then_some}
+use Rattle.std.proofs.lemmas.Option.{option_and_then_some, none-some}
 use Rattle.std.proofs.lemmas.List.{append-nil}
 use Rattle.std.proofs.lemmas.Bool.{cases_Bool, ltb-true, ltb-false}
 use Rattle.mm_formula.specs.Variables.{is_set}
@@ -179,10 +179,6 @@ opens ss before own t f frames s e spans begins fits h =
 abbrev pub more : (own ts : List Token) (t : Token) → own ≡ ts → own ++ t ∷ [] ≡ ts ++ t ∷ []
 more own ts t e = ap (λ (z : List Token). z ++ t ∷ []) e
 
--- no state follows
-pub nowhere : {A : Type 0} (P : Type 0) (x : A) → None ≡ Some x → P
-nowhere P x h = absurd (cc)
-
 pub operand_reached : (ss before own : List Token) (t : Token) (frames : List Frame) (s : State) → ss ≡ before ++ own → Spans frames before
     → own ≡ [] → operand frames t ≡ Some s → Reached (ss ++ t ∷ []) s
 operand_reached ss before own Not frames s e spans b h = opens ss before own Not Negation frames s e spans (more own [] Not b) (hole_below frames) h
@@ -193,25 +189,25 @@ operand_reached ss before own (Const v) frames s e spans b h =
     stays ss before own (Const v) frames (Complete (formula.Syntax.Const v)) s e spans (subst D (sym (more own [] (Const v) b)) Derives.constant) h
 operand_reached ss before own (Variable v) frames s e spans b h = stays ss before own (Variable v) frames (First v) s e spans (more own [] (Variable v) b) h
 operand_reached ss before own Ind frames s e spans b h = stays ss before own Ind frames Independent s e spans (more own [] Ind b) h
-operand_reached ss before own (Connective c) frames s e spans b h = nowhere (Reached (ss ++ Connective c ∷ []) s) s h
-operand_reached ss before own (Relation r) frames s e spans b h = nowhere (Reached (ss ++ Relation r ∷ []) s) s h
-operand_reached ss before own Close frames s e spans b h = nowhere (Reached (ss ++ Close ∷ []) s) s h
-operand_reached ss before own Bar frames s e spans b h = nowhere (Reached (ss ++ Bar ∷ []) s) s h
-operand_reached ss before own Star frames s e spans b h = nowhere (Reached (ss ++ Star ∷ []) s) s h
-operand_reached ss before own Zero frames s e spans b h = nowhere (Reached (ss ++ Zero ∷ []) s) s h
-operand_reached ss before own Unknown frames s e spans b h = nowhere (Reached (ss ++ Unknown ∷ []) s) s h
+operand_reached ss before own (Connective c) frames s e spans b h = absurd (none-some s h)
+operand_reached ss before own (Relation r) frames s e spans b h = absurd (none-some s h)
+operand_reached ss before own Close frames s e spans b h = absurd (none-some s h)
+operand_reached ss before own Bar frames s e spans b h = absurd (none-some s h)
+operand_reached ss before own Star frames s e spans b h = absurd (none-some s h)
+operand_reached ss before own Zero frames s e spans b h = absurd (none-some s h)
+operand_reached ss before own Unknown frames s e spans b h = absurd (none-some s h)
 
 pub bound_reached : (ss before own : List Token) (t : Token) (frames : List Frame) (q : quantifiers.Quantifier) (s : State) → ss ≡ before ++ own → Spans frames before
     → own ≡ Quantifier q ∷ [] → bound frames q t ≡ Some s → Reached (ss ++ t ∷ []) s
 bound_reached ss before own (Variable v) frames q s e spans b h =
     opens ss before own (Variable v) (Binder q v) frames s e spans (more own (Quantifier q ∷ []) (Variable v) b) (hole_below frames) h
-bound_reached ss before own t frames q s e spans b h = nowhere (Reached (ss ++ t ∷ []) s) s h
+bound_reached ss before own t frames q s e spans b h = absurd (none-some s h)
 
 pub first_reached : (ss before own : List Token) (t : Token) (frames : List Frame) (v : List ℕ) (s : State) → ss ≡ before ++ own → Spans frames before
     → own ≡ Variable v ∷ [] → first frames v t ≡ Some s → Reached (ss ++ t ∷ []) s
 first_reached ss before own (Relation r) frames v s e spans b h =
     stays ss before own (Relation r) frames (Second v r) s e spans (more own (Variable v ∷ []) (Relation r) b) h
-first_reached ss before own t frames v s e spans b h = nowhere (Reached (ss ++ t ∷ []) s) s h
+first_reached ss before own t frames v s e spans b h = absurd (none-some s h)
 
 -- the atom of two variables
 pub is_atom : (v : List ℕ) (r : relations.Relation) (w : List ℕ) (F G : formula.Syntax) → atom v r w ≡ Some F → atom v r w ≡ Some G
@@ -220,7 +216,7 @@ is_atom v r w F G f g d = let D : formula.Syntax → Type 0 = Derives Unary (Var
 
 pub no_atom : (v : List ℕ) (r : relations.Relation) (w : List ℕ) (G : formula.Syntax) → atom v r w ≡ None → atom v r w ≡ Some G
     → Derives Unary (Variable v ∷ Relation r ∷ Variable w ∷ []) G
-no_atom v r w G n g = nowhere (Derives Unary (Variable v ∷ Relation r ∷ Variable w ∷ []) G) G (sym n ∙ g)
+no_atom v r w G n g = absurd (none-some G (sym n ∙ g))
 
 pub atom_derived : (v : List ℕ) (r : relations.Relation) (w : List ℕ) (x y : Bool) → is_set v ≡ x → is_set w ≡ y → (F : formula.Syntax) → atom v r w ≡ Some F
     → Derives Unary (Variable v ∷ Relation r ∷ Variable w ∷ []) F
@@ -242,12 +238,12 @@ second_reached ss before own (Variable w) frames v r s e spans b h =
     let D : List Token → Type 0 = λ ts. Derives Unary ts F in
     stays ss before own (Variable w) frames (Complete F) s e spans
     (subst D (sym (more own (Variable v ∷ Relation r ∷ []) (Variable w) b)) (atom_derived v r w (is_set v) (is_set w) refl refl F is)) gone)
-second_reached ss before own t frames v r s e spans b h = nowhere (Reached (ss ++ t ∷ []) s) s h
+second_reached ss before own t frames v r s e spans b h = absurd (none-some s h)
 
 pub independent_reached : (ss before own : List Token) (t : Token) (frames : List Frame) (s : State) → ss ≡ before ++ own → Spans frames before
     → own ≡ Ind ∷ [] → independent frames t ≡ Some s → Reached (ss ++ t ∷ []) s
 independent_reached ss before own Open frames s e spans b h = stays ss before own Open frames TermBegins s e spans (more own (Ind ∷ []) Open b) h
-independent_reached ss before own t frames s e spans b h = nowhere (Reached (ss ++ t ∷ []) s) s h
+independent_reached ss before own t frames s e spans b h = absurd (none-some s h)
 
 pub term_begins_reached : (ss before own : List Token) (t : Token) (frames : List Frame) (s : State) → ss ≡ before ++ own → Spans frames before
     → own ≡ Ind ∷ Open ∷ [] → term_begins frames t ≡ Some s → Reached (ss ++ t ∷ []) s
@@ -258,7 +254,7 @@ term_begins_reached ss before own (Variable v) frames s e spans b h =
 term_begins_reached ss before own Star frames s e spans b h =
     stays ss before own Star frames (Parts (record { whole = true; vars = [] })) s e spans
     (Star ∷ [], more own (Ind ∷ Open ∷ []) Star b, DerivesUnion.star) h
-term_begins_reached ss before own t frames s e spans b h = nowhere (Reached (ss ++ t ∷ []) s) s h
+term_begins_reached ss before own t frames s e spans b h = absurd (none-some s h)
 
 -- the term of `ind` is complete
 pub term_reached : (ss before own ts : List Token) (t : Term) (frames : List Frame) (s : State) → ss ≡ before ++ own → Spans frames before
@@ -270,14 +266,14 @@ term_reached ss before own ts t frames s e spans b d h =
 pub nothing_reached : (ss before own : List Token) (t : Token) (frames : List Frame) (s : State) → ss ≡ before ++ own → Spans frames before
     → own ≡ Ind ∷ Open ∷ Zero ∷ [] → ends_term frames nothing t ≡ Some s → Reached (ss ++ t ∷ []) s
 nothing_reached ss before own Close frames s e spans b h = term_reached ss before own (Zero ∷ []) nothing frames s e spans b DerivesTerm.zero_sign h
-nothing_reached ss before own t frames s e spans b h = nowhere (Reached (ss ++ t ∷ []) s) s h
+nothing_reached ss before own t frames s e spans b h = absurd (none-some s h)
 
 pub parts_reached : (ss before own : List Token) (t : Token) (frames : List Frame) (u : Term) (s : State) → ss ≡ before ++ own → Spans frames before
     → Behind (Parts u) own → parts frames u t ≡ Some s → Reached (ss ++ t ∷ []) s
 parts_reached ss before own Close frames u s e spans b h = term_reached ss before own b.0 u frames s e spans b.1 (DerivesTerm.union b.2) h
 parts_reached ss before own Bar frames u s e spans b h =
     stays ss before own Bar frames (NextPart u) s e spans (b.0, more own (Ind ∷ Open ∷ b.0) Bar b.1, b.2) h
-parts_reached ss before own t frames u s e spans b h = nowhere (Reached (ss ++ t ∷ []) s) s h
+parts_reached ss before own t frames u s e spans b h = absurd (none-some s h)
 
 pub next_part_reached : (ss before own : List Token) (t : Token) (frames : List Frame) (u : Term) (s : State) → ss ≡ before ++ own → Spans frames before
     → Behind (NextPart u) own → next_part frames u t ≡ Some s → Reached (ss ++ t ∷ []) s
@@ -293,7 +289,7 @@ next_part_reached ss before own Star frames u s e spans b h =
       more own (Ind ∷ Open ∷ b.0 ++ Bar ∷ []) Star b.1 ∙ ap (λ (z : List Token). Ind ∷ Open ∷ z) (append_assoc b.0 (Bar ∷ []) (Star ∷ [])),
       DerivesUnion.bar_star b.2,
     ) h
-next_part_reached ss before own t frames u s e spans b h = nowhere (Reached (ss ++ t ∷ []) s) s h
+next_part_reached ss before own t frames u s e spans b h = absurd (none-some s h)
 
 -- ---- behind a formula
 
@@ -347,10 +343,10 @@ left_reached ss before own (Parenthesis ∷ frames) F s e r h =
       spans = r.spans.5;
       behind = subst D (sym r.spans.3) (Derives.parentheses (loosened Equivalence r.of (omega arith) r.derived));
     })
-left_reached ss before own [] F s e r h = nowhere (Reached (ss ++ Close ∷ []) s) s h
-left_reached ss before own (Negation ∷ frames) F s e r h = nowhere (Reached (ss ++ Close ∷ []) s) s h
-left_reached ss before own (Binder q v ∷ frames) F s e r h = nowhere (Reached (ss ++ Close ∷ []) s) s h
-left_reached ss before own (Left c A ∷ frames) F s e r h = nowhere (Reached (ss ++ Close ∷ []) s) s h
+left_reached ss before own [] F s e r h = absurd (none-some s h)
+left_reached ss before own (Negation ∷ frames) F s e r h = absurd (none-some s h)
+left_reached ss before own (Binder q v ∷ frames) F s e r h = absurd (none-some s h)
+left_reached ss before own (Left c A ∷ frames) F s e r h = absurd (none-some s h)
 
 pub complete_reached : (ss before own : List Token) (t : Token) (frames : List Frame) (F : formula.Syntax) (s : State) → ss ≡ before ++ own → Spans frames before
     → Derives Unary own F → complete frames F t ≡ Some s → Reached (ss ++ t ∷ []) s
@@ -361,7 +357,7 @@ complete_reached ss before own Close frames F s e spans d h =
     let p = close 0 frames F in
     left_reached ss before own p.0 p.1 s e
     (closed 0 0 (λ f above. omega arith) frames Unary before own F spans (hole_below frames) (omega arith) d) h
-complete_reached ss before own t frames F s e spans d h = nowhere (Reached (ss ++ t ∷ []) s) s h
+complete_reached ss before own t frames F s e spans d h = absurd (none-some s h)
 
 -- ---- all tokens
 
@@ -385,7 +381,7 @@ whole_derived ss before own [] F G e r h =
     let T : List Token → Type 0 = λ z. Derives Equivalence z F in
     let D : formula.Syntax → Type 0 = Derives Equivalence ss in
     subst D (same_some F G h) (subst T (sym (e ∙ r.split ∙ ap (λ (z : List Token). z ++ r.own) r.spans)) (loosened Equivalence r.of (omega arith) r.derived))
-whole_derived ss before own (f ∷ frames) F G e r h = nowhere (Derives Equivalence ss G) G h
+whole_derived ss before own (f ∷ frames) F G e r h = absurd (none-some G h)
 
 pub finish_derived : (ss : List Token) (frames : List Frame) (mode : Mode) (G : formula.Syntax) → Reached ss (at frames mode) → finish (at frames mode) ≡ Some G
     → Derives Equivalence ss G
@@ -394,7 +390,7 @@ finish_derived ss frames (Complete F) G r h =
     let p = close 0 frames F in
     whole_derived ss r.before r.own p.0 p.1 G r.split
     (closed 0 0 (λ f above. omega arith) frames Unary r.before r.own F r.spans (hole_below frames) (omega arith) r.behind) h
-finish_derived ss frames mode G r h = nowhere (Derives Equivalence ss G) G h
+finish_derived ss frames mode G r h = absurd (none-some G h)
 
 pub run_derives_from : (ts ss : List Token) (s : State) (F : formula.Syntax) → Reached ss s → run s ts ≡ Some F → Derives Equivalence (ss ++ ts) F
 run_derives_from [] ss s F r h =

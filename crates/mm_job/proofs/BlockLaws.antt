@@ -1,9 +1,10 @@
 -- What is written for an item goes on with the lines behind it.
-use Rattle.std.specs.Prelude.{◌≡◌, refl, ℕ, Bool, true, false, ◌&&◌, List, [], ◌∷◌, codes, Some, None, Ok, Err, IfOk, if◌then◌else◌}
+use Rattle.std.specs.Prelude.{◌≡◌, refl, ℕ, Bool, true, false, List, [], ◌∷◌, codes, Some, None, Ok, Err, if◌then◌else◌}
 use Rattle.std.proofs.Common.{ap, sym, ◌∙◌}
 use Rattle.std.specs.declared.result.Result.{Result}
 use Rattle.std.specs.Str.{bytes_eq}
 use Rattle.std.proofs.lemmas.Slice.Eq.{bytes_eq-Decides}
+use Rattle.std.proofs.lemmas.Bool.{and_parts}
 use Rattle.mm_field.specs.declared.Field.{Field}
 use Rattle.mm_lines.specs.LineBytes.{bytes_of}
 use Rattle.mm_lines.specs.Tokens.{tokens}
@@ -26,17 +27,13 @@ use Rattle.mm_job.specs.declared.said.Said.TheVariants.{Refuses, Says}
 
 -- ---- the end of a block
 
-first_of_both : (a b : Bool) → (a && b) ≡ true → a ≡ true
-first_of_both true b p = refl
-first_of_both false b p = p
-
 -- a line that begins with `end` begins with no other word
 other_word : (word : List ℕ) (ts : List (List ℕ)) → bytes_eq word (codes "end") ≡ false → first_is (codes "end") ts ≡ true → first_is word ts ≡ false
 other_word word [] no_end h = refl
 other_word word (t ∷ ts) no_end h = ap (bytes_eq word) (sym ((bytes_eq-Decides (codes "end") t).0 h)) ∙ no_end
 
 pub end_is_other : (word : List ℕ) (r : Line) → bytes_eq word (codes "end") ≡ false → closes r ≡ true → begins word r ≡ false
-end_is_other word r no_end h = other_word word (tokens (bytes_of r)) no_end (first_of_both (begins (codes "end") r) _ h)
+end_is_other word r no_end h = other_word word (tokens (bytes_of r)) no_end (and_parts (begins (codes "end") r) _ h).0
 
 -- it is not too long
 text_is_short : (t : LineText) (n : ℕ) → first_is (codes "end") (tokens (bytes_of (record { number = n; text = t }))) ≡ true → too_long t n ≡ None
@@ -45,7 +42,7 @@ text_is_short (Whole bytes) n h = refl
 text_is_short TooLong n h = absurd (let e : false ≡ true = h in cc)
 
 pub end_is_short : (r : Line) → closes r ≡ true → too_long r.text r.number ≡ None
-end_is_short r h = text_is_short r.text r.number (first_of_both (begins (codes "end") r) _ h)
+end_is_short r h = text_is_short r.text r.number (and_parts (begins (codes "end") r) _ h).0
 
 pub rows_end : (f : Field) (names rows : List (List ℕ)) (r : Line) → closes r ≡ true → check_rows f names rows (r ∷ []) ≡ Read (record { names = names; rows = rows }) []
 unfolding check_rows check_end
@@ -110,7 +107,3 @@ ended e s r b said rs h is =
 pub reply_same : (s : Session) (given : Named) (said : Said) (reading : Reading Named) → reading ≡ Read given []
     → said ≡ Says (if is_same (compared s.f given s.tree) then codes "same" else codes "differs") → said ≡ reply_line (reply_of s reading)
 reply_same s given said reading r is = rw r is
-
-pub on_ok : {X E : Type 0} (P Q : X → Type 0) (r : Result X E) → ((x : X) → P x → Q x) → IfOk r P → IfOk r Q
-on_ok P Q (Ok x) f p = f x p
-on_ok P Q (Err e) f p = tt

@@ -1,6 +1,6 @@
 -- A line of a tree is refused where a builder refuses it, and builds what the builder builds.
-use Rattle.std.proofs.Common.{◌≡◌, ℕ, zero, suc, ◌+◌, ◌<◌, ◌≤◌, ◌&&◌, get_or, map, nat_abs, nat_le, nat_lt, max, Bool, true, false, not, ◌||◌, List, [], ◌∷◌, length, Option, Some, None, refl, sym, ap, ap₂, ◌∙◌, subst, arith, length-append}
-use Rattle.std.specs.Prelude.{Ok, Err, OnOk, ◌==◌, codes, if◌then◌else◌}
+use Rattle.std.proofs.Common.{◌≡◌, ℕ, ◌+◌, ◌≤◌, nat_abs, nat_le, nat_lt, max, Bool, true, false, not, ◌||◌, List, [], ◌∷◌, length, Option, Some, None, refl, sym, ap, ap₂, ◌∙◌, subst, arith, length-append}
+use Rattle.std.specs.Prelude.{Ok, Err, OnOk, ◌==◌, if◌then◌else◌}
 use Rattle.std.specs.declared.result.Result.{Result}
 use Rattle.std.proofs.lemmas.Bool.{leb-true, leb-false, le-leb, lt-ltb, ltb-true, eqb-true}
 use Rattle.mm_field.specs.declared.Field.{Field}
@@ -20,11 +20,7 @@ use Rattle.mm_tree.proofs.NameLaws.{one_of_append}
 use Rattle.mm_words.specs.Arguments.{args, three_of, two_of}
 use Rattle.mm_words.specs.Becoming.{Becomes}
 use Rattle.mm_words.specs.Demands.{◌>>=◌, ◌>>◌, demand, found, within}
-use Rattle.mm_words.specs.DigitTexts.{digit_of, is_digit, vector_of}
-use Rattle.mm_field.specs.Digits.{order}
-use Rattle.std.specs.List.{list_all}
-use Rattle.std.specs.Str.{bytes_eq}
-use Rattle.std.proofs.lemmas.Option.{none-some, same_Some}
+use Rattle.mm_words.specs.DigitTexts.{vector_of}
 use Rattle.mm_words.specs.TreeLines.{elem_line, elem_words, join_line, join_words, last_two, most_boundary, names_in, the_one, void_line, void_words, with_leaf}
 use Rattle.mm_words.specs.declared.refusal.Limit.TheVariants as limit
 use Rattle.mm_words.specs.declared.refusal.Refusal.{Refusal}
@@ -33,7 +29,9 @@ use Rattle.mm_words.specs.declared.refusal.Stop.{Stop}
 use Rattle.mm_words.specs.declared.refusal.Stop.TheVariants as stop
 use Rattle.mm_words.specs.declared.tree_words.ElementWords.{ElementWords}
 use Rattle.mm_words.specs.declared.tree_words.VoidWords.{VoidWords}
+use Rattle.mm_words.proofs.DigitLaws.{text_of_vector}
 use Rattle.mm_job.specs.Building.{stop_of, stopped}
+use Rattle.mm_job.proofs.KeptLaws.{same_value}
 
 -- ---- tests
 
@@ -222,10 +220,6 @@ no_one (t ∷ u ∷ trees) h = refl
 
 -- ---- what the words of a leaf keep
 
-value_or : {A : Type 0} → A → Result A Refusal → A
-value_or d (Ok x) = x
-value_or d (Err e) = d
-
 found_is : {A B : Type 0} (o : Option A) (e : Refusal) (k : A → Result B Refusal) (y : B) → (found o e >>= k) ≡ Ok y → (x : A) × (o ≡ Some x) × (k x ≡ Ok y)
 found_is None e k y h = absurd (let n : Err e ≡ Ok y = h in cc)
 found_is (Some x) e k y h = (x, refl, h)
@@ -234,31 +228,6 @@ demand_is : {B : Type 0} (b : Bool) (e : Refusal) (k : Result B Refusal) (y : B)
 demand_is true e k y h = (refl, h)
 demand_is false e k y h = absurd (let n : Err e ≡ Ok y = h in cc)
 
--- ---- digits
-
-digit_small : (f : Field) (b : ℕ) (t : List ℕ) (least most : Bool) → nat_le 48 b ≡ least → nat_lt b (48 + order f) ≡ most → ((least && most) && list_all (is_digit f) t) ≡ true
-    → (list_all (is_digit f) t ≡ true → (k e : ℕ) → k < length (map digit_of t) → get_or (map digit_of t) k e < order f)
-    → (k e : ℕ) → k < length (map digit_of (b ∷ t)) → get_or (map digit_of (b ∷ t)) k e < order f
-digit_small f b t false most p q h rest k e l = absurd (let n : false ≡ true = h in cc)
-digit_small f b t true false p q h rest k e l = absurd (let n : false ≡ true = h in cc)
-digit_small f b t true true p q h rest zero e l = omega (arith, leb-true 48 b p, ltb-true b (48 + order f) q)
-digit_small f b t true true p q h rest (suc k) e l = rest h k e (omega (arith, l))
-
-digits_small : (f : Field) (t : List ℕ) → list_all (is_digit f) t ≡ true → (k e : ℕ) → k < length (map digit_of t) → get_or (map digit_of t) k e < order f
-digits_small f [] h k e l = absurd (omega (arith, l))
-digits_small f (b ∷ t) h k e l = digit_small f b t (nat_le 48 b) (nat_lt b (48 + order f)) refl refl h (digits_small f t) k e l
-
-vector_cases : (f : Field) (t v : List ℕ) (short none some digits : Bool) → list_all (is_digit f) t ≡ digits
-    → (if short then (if none then Some [] else if some && digits then Some (map digit_of t) else None) else None) ≡ Some v → AreDigits f v
-vector_cases f t v false none some digits d h = absurd (none-some v h)
-vector_cases f t v true true some digits d h = subst (λ (w : List ℕ). AreDigits f w) (same_Some [] v h) (λ k e l. absurd (omega (arith, l)))
-vector_cases f t v true false true true d h = subst (λ (w : List ℕ). AreDigits f w) (same_Some (map digit_of t) v h) (digits_small f t d)
-vector_cases f t v true false true false d h = absurd (none-some v h)
-vector_cases f t v true false false digits d h = absurd (none-some v h)
-
-vector_digits : (f : Field) (t v : List ℕ) → vector_of f t ≡ Some v → AreDigits f v
-vector_digits f t v h = vector_cases f t v (nat_le (length t) 18) (bytes_eq t (codes "-")) (nat_le 1 (length t)) (list_all (is_digit f) t) refl h
-
 -- The words of an element are over the field, short and light.
 pub record IsElement (f : Field) (w : ElementWords) : Type 0 where
   pub digits : AreDigits f w.vec
@@ -266,7 +235,7 @@ pub record IsElement (f : Field) (w : ElementWords) : Type 0 where
   pub light : nat_abs w.weight ≤ most_weight
 
 pub element_kept : (f : Field) (line : Line) (w : ElementWords) → Ok w ≡ elem_words f line → IsElement f w
-unfolding elem_words value_or found_is
+unfolding elem_words found_is
 element_kept f line w h =
     let t = found_is (three_of (args line)) (refusal.Syntax line.number) _ w (sym h) in
     let named = demand_is _ (refusal.Syntax line.number) _ w t.2 in
@@ -274,9 +243,9 @@ element_kept f line w h =
     let weight = found_is (i64_of t.0.2) (refusal.Syntax line.number) _ w vec.2 in
     let short = demand_is (nat_le (length vec.0) most_boundary) (refusal.Over limit.Boundary line.number) _ w weight.2 in
     let light = demand_is (nat_le (nat_abs weight.0) most_weight) (refusal.Over limit.Weight line.number) _ w short.1 in
-    subst (λ (v : ElementWords). IsElement f v) (ap (value_or w) light.1)
+    subst (λ (v : ElementWords). IsElement f v) (same_value _ w light.1)
     (record {
-      digits = vector_digits f t.0.1 vec.0 vec.1;
+      digits = (text_of_vector f t.0.1 vec.0 vec.1).digits;
       short = leb-true (length vec.0) 6 short.0;
       light = leb-true (nat_abs weight.0) most_weight light.0;
     })
@@ -285,10 +254,10 @@ pub element_light : (f : Field) (line : Line) (w : ElementWords) → Ok w ≡ el
 element_light f line w h = (element_kept f line w h).light
 
 pub void_kept : (line : Line) (w : VoidWords) → Ok w ≡ void_words line → w.t ≤ 6
-unfolding void_words value_or found_is
+unfolding void_words found_is
 void_kept line w h =
     let t = found_is (two_of (args line)) (refusal.Syntax line.number) _ w (sym h) in
     let named = demand_is _ (refusal.Syntax line.number) _ w t.2 in
     let b = found_is (u32_of t.0.1) (refusal.Syntax line.number) _ w named.1 in
     let short = demand_is (nat_le b.0 most_boundary) (refusal.Over limit.Boundary line.number) _ w b.2 in
-    subst (λ (v : VoidWords). v.t ≤ 6) (ap (value_or w) short.1) (leb-true b.0 6 short.0)
+    subst (λ (v : VoidWords). v.t ≤ 6) (same_value _ w short.1) (leb-true b.0 6 short.0)

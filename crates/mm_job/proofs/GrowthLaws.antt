@@ -9,7 +9,7 @@ use Rattle.mm_base.specs.declared.status.Status.TheVariants as status
 use Rattle.mm_lines.specs.Fronts.{IsFront}
 use Rattle.mm_lines.specs.Lines.{is_over, lines, lines_of, most_bytes, settled}
 use Rattle.mm_lines.specs.declared.line.Line.{Line}
-use Rattle.mm_lines.proofs.FrontLaws.{settled_stay}
+use Rattle.mm_lines.proofs.FrontLaws.{settled_stay, front_same}
 use Rattle.mm_words.specs.Readers.{Reading, Refused}
 use Rattle.mm_words.specs.declared.refusal.Refusal.{Refusal}
 use Rattle.mm_words.proofs.ReaderLaws.{Keeps}
@@ -20,9 +20,6 @@ use Rattle.mm_job.specs.declared.said.Said.{Said}
 use Rattle.mm_job.specs.declared.said.Said.TheVariants.{Refuses}
 use Rattle.mm_job.proofs.HeaderLaws.{header_steady}
 use Rattle.mm_job.proofs.ItemLaws.{told_goes_on}
-
-front_same : {A : Type 0} (xs ys : List A) → xs ≡ ys → IsFront xs ys
-front_same xs ys p = ([], append-nil xs ∙ p)
 
 -- A text with more bytes than are used.
 

@@ -1,9 +1,9 @@
 -- A job that is fed a piece of a text, and the text with the piece.
 use Rattle.std.proofs.Common.{◌≡◌, ℕ, ◌+◌, ◌-◌, ◌≤◌, ◌<◌, Bool, true, false, List, [], ◌++◌, length, take, None, refl, sym, ap, ap₂, ◌∙◌, subst, arith}
-use Rattle.std.specs.Prelude.{◌||◌, if◌then◌else◌, Ok, Err, IfOk, OnOk, OnErr}
+use Rattle.std.specs.Prelude.{if◌then◌else◌, Ok, Err, IfOk}
 use Rattle.std.specs.declared.result.Result.{Result}
 use Rattle.std.specs.List.{list_any}
-use Rattle.std.proofs.lemmas.Bool.{lt-ltb}
+use Rattle.std.proofs.lemmas.Bool.{lt-ltb, or_right}
 use Rattle.std.proofs.lemmas.List.{length-append, length-take, take_all, take-take}
 use Rattle.std.proofs.Math.Seq.{take-append-add}
 use Rattle.mm_base.specs.declared.status.Status.{Status}
@@ -90,16 +90,12 @@ whole_piece text piece size = take_all (most_bytes + 1) (text ++ piece) (omega (
 
 -- ---- a text with more bytes
 
-or_true : (a b : Bool) → b ≡ true → (a || b) ≡ true
-or_true true b h = refl
-or_true false b h = h
-
 items_end : (s : Session) (its : Items) → list_any is_refusal (told_items Over s its) ≡ true
 unfolding told_items
 items_end s NoMore = refl
 items_end s Unended = refl
-items_end s (Single r rest) = or_true (is_refusal (reply_line (single s r))) _ (items_end (after_reply s (single s r)) rest)
-items_end s (Block r rs rest) = or_true (is_refusal (reply_line (block s r rs))) _ (items_end (after_reply s (block s r rs)) rest)
+items_end s (Single r rest) = or_right (is_refusal (reply_line (single s r))) _ (items_end (after_reply s (single s r)) rest)
+items_end s (Block r rs rest) = or_right (is_refusal (reply_line (block s r rs))) _ (items_end (after_reply s (block s r rs)) rest)
 
 behind_end : (r : Reading Session) → status_of (told_behind Over r) ≡ (if begins_refused (told_behind Over r) then status.Refused else status.EditRefused)
 behind_end (Read s rest) = ap (λ (c : Bool). if c then status.EditRefused else status.Done) (items_end s (items rest))
@@ -206,14 +202,6 @@ state_goes_on piece i s b c view size stands is told_so =
     goes_further (i.framer.bytes ++ piece) i.limit b c (omega (arith, small, length-append i.framer.bytes piece)) stands is told_so ∙ ap (λ (v : JobState). progress (v.text ++ piece) v.limit) view
 
 -- ---- results
-
-pub ok_as : {X E : Type 0} (P Q : Type 0) (r : Result X E) → (P → Q) → OnOk r P → OnOk r Q
-ok_as P Q (Ok x) f p = f p
-ok_as P Q (Err e) f p = tt
-
-pub err_as : {X E : Type 0} (P Q : Type 0) (r : Result X E) → (P → Q) → OnErr r P → OnErr r Q
-err_as P Q (Ok x) f p = tt
-err_as P Q (Err e) f p = f p
 
 pub value_as : {X E : Type 0} (a b : X) (r : Result X E) → a ≡ b → IfOk r (λ x. x ≡ a) → IfOk r (λ x. x ≡ b)
 value_as a b (Ok x) is p = p ∙ is

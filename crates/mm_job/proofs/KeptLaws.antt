@@ -17,19 +17,14 @@ use Rattle.mm_words.specs.OperatorLines.{added, op_line, operator_line, operator
 use Rattle.mm_words.specs.declared.format.Format.{Format}
 use Rattle.mm_words.specs.declared.refusal.Refusal.{Refusal}
 
-value_or : {A : Type 0} → A → Result A Refusal → A
-value_or d (Ok x) = x
-value_or d (Err e) = d
-
 abbrev ok_of : {A : Type 0} → A → Result A Refusal
 ok_of x = Ok x
 
 abbrev err_of : {A : Type 0} → Refusal → Result A Refusal
 err_of e = Err e
 
-same_value : {A : Type 0} (x y : A) → Ok x ≡ ok_of y → x ≡ y
-unfolding value_or
-same_value x y h = ap (value_or x) h
+pub same_value : {A : Type 0} (x y : A) → Ok x ≡ ok_of y → x ≡ y
+same_value x y h = cc
 
 no_value : {A P : Type 0} (e : Refusal) (y : A) → err_of e ≡ Ok y → P
 no_value e y h = absurd (let n : err_of e ≡ Ok y = h in cc)

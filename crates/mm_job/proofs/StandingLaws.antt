@@ -189,10 +189,6 @@ piece_lost limit old piece a held stands read size e =
 
 -- ---- what all lines come to
 
-or_true : (a b : Bool) → b ≡ true → (a || b) ≡ true
-or_true true b h = refl
-or_true false b h = h
-
 stays_refused : (said : List Said) → come_to (Some status.Refused) said ≡ Some status.Refused
 stays_refused [] = refl
 stays_refused (x ∷ said) = stays_refused said

@@ -1,6 +1,7 @@
 -- The truth of a formula without quantifiers and without variables is its meaning.
 use Rattle.std.proofs.Common.{◌≡◌, ℕ, zero, suc, Bool, true, false, not, List, [], ◌∷◌, ◌++◌, length, map, replicate, refl, sym, ap, ap₂, ◌∙◌, arith}
-use Rattle.std.specs.Prelude.{Option, Some, None, is_none, ◌&&◌, ◌||◌, if◌then◌else◌}
+use Rattle.std.proofs.lemmas.Bool.{and_parts, or_parts}
+use Rattle.std.specs.Prelude.{Option, Some, None, is_none, ◌&&◌, if◌then◌else◌}
 use Rattle.std.specs.List.{items_where_true}
 use Rattle.mm_field.specs.declared.Field.{Field}
 use Rattle.mm_formula.specs.Scope.{IsScoped, connective, slot_in, slotted, unbound, without}
@@ -62,15 +63,6 @@ ind_truth f T false [] h =
     sym (independent_none f T) ∙ ap (is_independent_set f T) (sym (same_marks (record { whole = false; slots = [] }) (shapes.size T)))
 ind_truth f T false (v ∷ vars) h = none_of_some _ v vars h
 
-first_of_both : (a b : Bool) → (a && b) ≡ true → a ≡ true
-first_of_both true b p = refl
-first_of_both false b p = p
-
-second_of_both : (a b : Bool) → (a && b) ≡ true → b ≡ true
-second_of_both true b p = p
-second_of_both false true p = refl
-second_of_both false false p = p
-
 pub truth_is_meaning : (f : Field) (T : shapes.Tree) (F : Syntax) → is_plain F ≡ true → unbound [] F ≡ [] → plain_truth (all_independent f T) F ≡ holds f (slotted [] F) T (unmarked (shapes.size T))
 truth_is_meaning f T (Const b) p u = refl
 truth_is_meaning f T (Ind t) p u = ind_truth f T t.whole t.vars (no_vars t.vars u)
@@ -81,21 +73,12 @@ truth_is_meaning f T (SameSet a b) p u = none_of_some _ a (b ∷ []) u
 truth_is_meaning f T (Not F) p u = ap not (truth_is_meaning f T F p u)
 truth_is_meaning f T (Bin c F G) p u =
     ap₂ (connect (connective c))
-    (truth_is_meaning f T F (first_of_both (is_plain F) (is_plain G) p) (first_none (unbound [] F) (unbound [] G) u))
-    (truth_is_meaning f T G (second_of_both (is_plain F) (is_plain G) p) (second_none (unbound [] F) (unbound [] G) u))
+    (truth_is_meaning f T F (and_parts (is_plain F) (is_plain G) p).0 (first_none (unbound [] F) (unbound [] G) u))
+    (truth_is_meaning f T G (and_parts (is_plain F) (is_plain G) p).1 (second_none (unbound [] F) (unbound [] G) u))
 truth_is_meaning f T (Ex v F) p u = absurd (let e : false ≡ true = p in cc)
 truth_is_meaning f T (All v F) p u = absurd (let e : false ≡ true = p in cc)
 
 -- a formula that does not speak of all elements does not depend on them
-
-neither_first : (a b : Bool) → (a || b) ≡ false → a ≡ false
-neither_first true b h = h
-neither_first false b h = refl
-
-neither_second : (a b : Bool) → (a || b) ≡ false → b ≡ false
-neither_second true true h = h
-neither_second true false h = refl
-neither_second false b h = h
 
 no_whole : (whole a b : Bool) → whole ≡ false → (if whole then a else true) ≡ (if whole then b else true)
 no_whole true a b h = absurd (let e : true ≡ false = h in cc)
@@ -110,7 +93,7 @@ truth_without_all (Sub x y) a b h = refl
 truth_without_all (SameSet x y) a b h = refl
 truth_without_all (Not F) a b h = ap not (truth_without_all F a b h)
 truth_without_all (Bin c F G) a b h =
-    ap₂ (connect (connective c)) (truth_without_all F a b (neither_first (speaks_of_all F) (speaks_of_all G) h)) (truth_without_all G a b (neither_second (speaks_of_all F) (speaks_of_all G) h))
+    ap₂ (connect (connective c)) (truth_without_all F a b (or_parts (speaks_of_all F) (speaks_of_all G) h).0) (truth_without_all G a b (or_parts (speaks_of_all F) (speaks_of_all G) h).1)
 truth_without_all (Ex v F) a b h = refl
 truth_without_all (All v F) a b h = refl
 

@@ -1,10 +1,9 @@
 -- The operators that are read are valid.
-use Rattle.std.proofs.Common.{All, ℕ, ◌+◌, ◌-◌, ◌<◌, ◌≤◌, ◌≡◌, Bool, true, false, ◌&&◌, Option, Some, None, List, [], ◌∷◌, ◌++◌, length, map, refl, subst, arith}
-use Rattle.std.specs.Prelude.{codes, nat_le, nat_lt, IfOk, Ok, if◌then◌else◌}
-use Rattle.std.specs.List.{AllByRecursion, list_all, slice_split}
+use Rattle.std.proofs.Common.{All, ℕ, ◌+◌, ◌-◌, ◌<◌, ◌≡◌, Bool, true, false, ◌&&◌, Option, Some, None, List, [], ◌∷◌, ◌++◌, length, map, refl, subst}
+use Rattle.std.specs.Prelude.{codes, nat_le, IfOk, Ok, if◌then◌else◌}
+use Rattle.std.specs.List.{AllByRecursion, list_all}
 use Rattle.std.specs.Str.{bytes_eq}
-use Rattle.std.proofs.lemmas.Bool.{leb-true, ltb-true, and_parts}
-use Rattle.std.proofs.lemmas.List.Elements.{All-nil, All-cons}
+use Rattle.std.proofs.lemmas.List.Elements.{All-nil}
 use Rattle.std.proofs.lemmas.Option.{same_Some}
 use Rattle.mm_base.specs.Names.{is_name}
 use Rattle.mm_field.specs.declared.Field.{Field}
@@ -21,7 +20,7 @@ use Rattle.mm_ops.specs.declared.op.OpFault.{OpFault}
 use Rattle.mm_ops.specs.declared.op.OpFault.TheVariants.{Bound, Shape, Dependent}
 use Rattle.mm_ops.proofs.ValidOps.{valid_ops_exactly}
 use Rattle.mm_words.specs.Arguments.{args}
-use Rattle.mm_words.specs.DigitTexts.{is_digit, digit_of, digits_of, vector_of, with_vector, each_vector, is_slash, vectors_of}
+use Rattle.mm_words.specs.DigitTexts.{is_digit, digit_of, digits_of, vectors_of}
 use Rattle.mm_words.specs.OperatorLines.{OperatorTokens, operator_tokens, third_matrix, shown, operator_words, third_or_units, operator_of, operator_refusal, table_refusal, operator_line, op_line, HasThirdDigits, HasDigits}
 use Rattle.mm_words.specs.declared.format.Format.{Format}
 use Rattle.mm_words.specs.declared.operator_words.OperatorWords.{OperatorWords}
@@ -29,18 +28,10 @@ use Rattle.mm_words.specs.declared.operator_words.Third.{Third}
 use Rattle.mm_words.specs.declared.operator_words.Third.TheVariants.{Units, Written}
 use Rattle.mm_words.specs.declared.refusal.Refusal.{Refusal}
 use Rattle.mm_words.specs.declared.refusal.Refusal.TheVariants as refusal
-use Rattle.mm_job_laws.proofs.ReadingLaws.{if_demand, if_found, if_unless, if_ok}
+use Rattle.mm_words.proofs.ReadingLaws.{if_demand, if_found, if_unless, if_ok}
+use Rattle.mm_words.proofs.DigitLaws.{digits_small, text_of_vectors}
 
 -- ---- digits
-
-digits_small : (f : Field) (t : List ℕ) → list_all (is_digit f) t ≡ true → AreDigits f (map digit_of t)
-digits_small f [] h = All-nil (λ d. d < order f)
-digits_small f (b ∷ t) h =
-    let p = and_parts (is_digit f b) (list_all (is_digit f) t) h in
-    let q = and_parts (nat_le 48 b) (nat_lt b (48 + order f)) p.0 in
-    let least : 48 ≤ b = leb-true 48 b q.0 in
-    let most : b < 48 + order f = ltb-true b (48 + order f) q.1 in
-    All-cons (λ d. d < order f) (b - 48) (map digit_of t) (omega arith) (digits_small f t p.1)
 
 pub digits_are : (f : Field) (t v : List ℕ) → digits_of f t ≡ Some v → AreDigits f v
 digits_are f t v h = go (bytes_eq t (codes "-")) (nat_le 1 (length t)) (list_all (is_digit f) t) refl h
@@ -52,41 +43,15 @@ digits_are f t v h = go (bytes_eq t (codes "-")) (nat_le 1 (length t)) (list_all
     go false true false e h = cc
     go false false digits e h = cc
 
-pub vector_are : (f : Field) (t v : List ℕ) → vector_of f t ≡ Some v → AreDigits f v
-vector_are f t v h = go (nat_le (length t) 18) h
-  where
-    go : (b : Bool) → (if b then digits_of f t else None) ≡ Some v → AreDigits f v
-    go true h = digits_are f t v h
-    go false h = cc
-
 -- each of some vectors has digits of the field
 abbrev AreAllDigits : Field → List (List ℕ) → Type 0
 AreAllDigits f g = All (λ v. AreDigits f v) g
-
-each_are : (f : Field) (ts vs : List (List ℕ)) → each_vector f ts ≡ Some vs → AreAllDigits f vs
-each_are f [] vs h = subst (λ ws. AreAllDigits f ws) (same_Some [] vs h) (All-nil (λ v. AreDigits f v))
-each_are f (t ∷ ts) vs h = go (vector_of f t) (each_vector f ts) (λ v e. vector_are f t v e) (λ ws e. each_are f ts ws e) h
-  where
-    go : (o : Option (List ℕ)) (os : Option (List (List ℕ))) → ((v : List ℕ) → o ≡ Some v → AreDigits f v) →
-        ((ws : List (List ℕ)) → os ≡ Some ws → AreAllDigits f ws) → with_vector o os ≡ Some vs → AreAllDigits f vs
-    go None os one more h = cc
-    go (Some v) None one more h = cc
-    go (Some v) (Some ws) one more h =
-        subst (λ us. AreAllDigits f us) (same_Some (v ∷ ws) vs h) (All-cons (λ v. AreDigits f v) v ws (one v refl) (more ws refl))
-
-vectors_are : (f : Field) (t : List ℕ) (vs : List (List ℕ)) → vectors_of f t ≡ Some vs → AreAllDigits f vs
-vectors_are f t vs h = go (bytes_eq t (codes ".")) (nat_le (length (slice_split is_slash t)) 6) h
-  where
-    go : (dot few : Bool) → (if dot then Some [] else if few then each_vector f (slice_split is_slash t) else None) ≡ Some vs → AreAllDigits f vs
-    go true few h = subst (λ ws. AreAllDigits f ws) (same_Some [] vs h) (All-nil (λ v. AreDigits f v))
-    go false true h = each_are f (slice_split is_slash t) vs h
-    go false false h = cc
 
 -- ---- the words of an operator's line
 
 third_are : (f : Field) (o : Option (List ℕ)) (e : Refusal) → IfOk (third_matrix f o e) (λ g3. HasThirdDigits f g3)
 third_are f None e = tt
-third_are f (Some t) e = if_found (λ g3. HasThirdDigits f g3) (vectors_of f t) e (λ g3. Ok (Written g3)) (λ g3 some. vectors_are f t g3 some)
+third_are f (Some t) e = if_found (λ g3. HasThirdDigits f g3) (vectors_of f t) e (λ g3. Ok (Written g3)) (λ g3 some. (text_of_vectors f t g3 some).digits)
 
 shown_are : (f : Field) (t : OperatorTokens) (e : Refusal) → IfOk (shown f t e) (λ w. HasDigits f w)
 unfolding shown
@@ -100,7 +65,7 @@ shown_are f t e =
     if_found P (vectors_of f t.g1) e _ (λ g1 first.
     if_found P (vectors_of f t.g2) e _ (λ g2 second.
     if_ok (λ g3. HasThirdDigits f g3) P (third_matrix f t.g3 e) _ (third_are f t.g3 e) (λ g3 third.
-    record { first = vectors_are f t.g1 g1 first; second = vectors_are f t.g2 g2 second; third = third }))))))))
+    record { first = (text_of_vectors f t.g1 g1 first).digits; second = (text_of_vectors f t.g2 g2 second).digits; third = third }))))))))
 
 words_are : (version : Format) (f : Field) (r : Line) → IfOk (operator_words version f r) (λ w. HasDigits f w)
 unfolding operator_words

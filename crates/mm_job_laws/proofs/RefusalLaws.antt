@@ -12,13 +12,14 @@ use Rattle.mm_lines.specs.declared.line.Line.{Line}
 use Rattle.mm_present.specs.Comparing.{compared}
 use Rattle.mm_present.specs.declared.verdict.Verdict.{Verdict}
 use Rattle.mm_present.specs.declared.verdict.Verdict.TheVariants as verdict
+use Rattle.mm_present.proofs.NameLaws.{different_elements}
 use Rattle.mm_words.specs.Demands.{◌>>=◌, demand}
 use Rattle.mm_words.specs.Readers.{Reading, Read, Refused, Short, and_then, now, whole}
 use Rattle.mm_words.specs.declared.refusal.Refusal.{Refusal}
 use Rattle.mm_words.specs.declared.refusal.Refusal.TheVariants as refusal
 use Rattle.mm_job_laws.specs.Agreement.{Agrees}
 use Rattle.mm_job_laws.specs.HeaderLaws.{given_of, IsRefusedForRows, session_of, IsDecidedByAgreement, RowsAreRefusedExactly, IsRowRefusalAlone, OutputRefusesRowsExactly}
-use Rattle.mm_job_laws.proofs.AgreementLaws.{different_elements, same_exactly_where_they_agree}
+use Rattle.mm_job_laws.proofs.AgreementLaws.{same_exactly_where_they_agree}
 use Rattle.mm_job_laws.proofs.SoundLaws.{lines_are_sound}
 
 -- the header behind a query that is built

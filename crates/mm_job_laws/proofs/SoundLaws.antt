@@ -3,7 +3,7 @@ use Rattle.std.proofs.Common.{ℕ, ◌≡◌, not, ◌==◌, List, [], ◌∷◌
 use Rattle.std.specs.Prelude.{codes, nat_lt, IfOk}
 use Rattle.std.specs.List.{IsDistinct, list_all}
 use Rattle.std.specs.Str.{bytes_eq}
-use Rattle.std.proofs.lemmas.Bool.{eqb-true}
+use Rattle.std.proofs.lemmas.Bool.{eqb-true, not-true}
 use Rattle.std.proofs.lemmas.List.Elements.{All-nil, All-cons, All-append}
 use Rattle.mm_base.specs.Names.{is_name}
 use Rattle.mm_field.specs.declared.Field.{Field}
@@ -24,8 +24,7 @@ use Rattle.mm_words.specs.declared.refusal.Limit.TheVariants as limit
 use Rattle.mm_words.specs.declared.refusal.Refusal.TheVariants as refusal
 use Rattle.mm_job_laws.specs.HeaderLaws.{AreSound, LinesAreSound}
 use Rattle.mm_job_laws.proofs.OperatorLaws.{AreValidOps, digits_are, ops_stay_valid}
-use Rattle.mm_job_laws.proofs.ReadingLaws.{IfRead, if_demand, if_found, if_ok, each_has, line_has, then_has, read_has, anything}
-use Rattle.mm_job_laws.proofs.TestLaws.{opposite}
+use Rattle.mm_words.proofs.ReadingLaws.{IfRead, if_demand, if_found, if_ok, each_has, line_has, then_has, read_has, anything}
 use Rattle.mm_job_laws.proofs.TreeLaws.{tree_is_valid}
 
 -- ---- names
@@ -37,7 +36,7 @@ one_more_name : (n : ℕ) (names : List (List ℕ)) (name : List ℕ) → AreDif
 one_more_name n names name d =
     if_demand AreDifferent (not (is_one_of name names)) (refusal.Taken name) _ (λ free.
     if_demand AreDifferent (nat_lt (length names) most_elements) (refusal.Over limit.Elements n) _ (λ room.
-    distinct_push names name d (opposite (is_one_of name names) free)))
+    distinct_push names name d (not-true (is_one_of name names) free)))
 
 more_names : (n : ℕ) (names ts : List (List ℕ)) → AreDifferent names → IfOk (with_names n names ts) AreDifferent
 more_names n names [] d = d

@@ -3,7 +3,7 @@ use Rattle.std.proofs.Common.{ℕ, suc, ◌<◌, ◌≤◌, ◌≡◌, Bool, tru
 use Rattle.std.specs.Prelude.{codes, nat_le, nat_lt, IfOk, if◌then◌else◌}
 use Rattle.std.specs.List.{AllByRecursion, IsDistinct}
 use Rattle.std.specs.Str.{bytes_eq}
-use Rattle.std.proofs.lemmas.Bool.{leb-true, ltb-true, eqb-true}
+use Rattle.std.proofs.lemmas.Bool.{leb-true, ltb-true, eqb-true, or_left, or_right, not-true, both_ways, false_from_ne_true}
 use Rattle.std.proofs.lemmas.List.Elements.{All-nil, All-cons, All-append}
 use Rattle.std.proofs.lemmas.Option.{same_Some}
 use Rattle.mm_base.specs.Names.{is_name}
@@ -13,11 +13,12 @@ use Rattle.mm_lines.specs.Numbers.{u32_of, i64_of}
 use Rattle.mm_lines.specs.declared.line.Line.{Line}
 use Rattle.mm_logic.specs.Operator.{Op, IsValidOp}
 use Rattle.mm_ops.specs.Tables.{Named, op_named}
-use Rattle.mm_tree.proofs.NameLaws.{AreApart, all_unequal, one_of_append, or_left, or_right, distinct_left, distinct_right, distinct_apart, distinct_append}
+use Rattle.mm_tree.proofs.NameLaws.{AreApart, all_unequal, one_of_append, distinct_left, distinct_right, distinct_apart, distinct_append}
 use Rattle.mm_tree.proofs.TreeLaws.{shape_boundary, join_names}
+use Rattle.mm_tree.proofs.BuilderLaws.{alone, one_name}
 use Rattle.mm_tree.specs.NamedTree.{Tree, shape, boundary, depth, leaf_names, node_names, weights, is_one_of}
 use Rattle.mm_tree.specs.NamedTree.Tree.{Elem, Void, Join}
-use Rattle.mm_tree.specs.ValidTree.{IsValidTree, AreNames, most_leaves, most_depth, most_weight}
+use Rattle.mm_tree.specs.ValidTree.{IsValidTree, most_leaves, most_depth, most_weight}
 use Rattle.mm_words.specs.Arguments.{args, begins, is_word, one_of, two_of, three_of}
 use Rattle.mm_words.specs.DigitTexts.{vector_of}
 use Rattle.mm_words.specs.Readers.{each, line}
@@ -26,15 +27,11 @@ use Rattle.mm_words.specs.declared.refusal.Limit.TheVariants as limit
 use Rattle.mm_words.specs.declared.refusal.Refusal.TheVariants as refusal
 use Rattle.mm_words.specs.declared.tree_words.ElementWords.{ElementWords}
 use Rattle.mm_words.specs.declared.tree_words.VoidWords.{VoidWords}
-use Rattle.mm_job_laws.proofs.OperatorLaws.{AreValidOps, named_is_valid, vector_are}
-use Rattle.mm_job_laws.proofs.ReadingLaws.{IfRead, if_demand, if_found, if_ok, each_has, line_has, then_has}
-use Rattle.mm_job_laws.proofs.TestLaws.{opposite, clash, not_there}
+use Rattle.mm_job_laws.proofs.OperatorLaws.{AreValidOps, named_is_valid}
+use Rattle.mm_words.proofs.ReadingLaws.{IfRead, if_demand, if_found, if_ok, each_has, line_has, then_has}
+use Rattle.mm_words.proofs.DigitLaws.{text_of_vector}
 
 -- ---- names
-
-alone : (x : List ℕ) → IsDistinct bytes_eq (x ∷ [])
-unfolding IsDistinct
-alone x = (tt, tt)
 
 name_before : (name : List ℕ) (names : List (List ℕ)) → is_one_of name names ≡ false → IsDistinct bytes_eq names → IsDistinct bytes_eq (name ∷ names)
 unfolding IsDistinct
@@ -55,10 +52,10 @@ names_turned R L S d =
     let ls = distinct_right R (L ++ S) d in
     let apart = distinct_apart R (L ++ S) d in
     let l_from_s = distinct_apart L S ls in
-    let l_from_r : AreApart L R = λ x t. not_there (is_one_of x R) (λ u.
-    clash (is_one_of x (L ++ S)) (one_of_append x L S ∙ or_left (is_one_of x L) (is_one_of x S) t) (apart x u)) in
-    let r_from_s : AreApart R S = λ x t. not_there (is_one_of x S) (λ u.
-    clash (is_one_of x (L ++ S)) (one_of_append x L S ∙ or_right (is_one_of x L) (is_one_of x S) u) (apart x t)) in
+    let l_from_r : AreApart L R = λ x t. false_from_ne_true (is_one_of x R) (λ u.
+    both_ways (is_one_of x (L ++ S)) (apart x u) (one_of_append x L S ∙ or_left (is_one_of x L) (is_one_of x S) t)) in
+    let r_from_s : AreApart R S = λ x t. false_from_ne_true (is_one_of x S) (λ u.
+    both_ways (is_one_of x (L ++ S)) (apart x t) (one_of_append x L S ∙ or_right (is_one_of x L) (is_one_of x S) u)) in
     distinct_append (L ++ R) S (distinct_append L R (distinct_left L S ls) r l_from_r) (distinct_right L S ls)
     (apart_from_both L R S l_from_s r_from_s)
 
@@ -84,14 +81,11 @@ leaf_grown f n trees name leaf e v h =
     let one : suc (length (names_in trees)) ≤ most_leaves = omega arith in
     record {
       valid = (v, h.valid);
-      different = subst (λ ns. IsDistinct bytes_eq ns) all (name_before name (names_in trees) (opposite (is_one_of name (names_in trees)) free) h.different);
+      different = subst (λ ns. IsDistinct bytes_eq ns) all (name_before name (names_in trees) (not-true (is_one_of name (names_in trees)) free) h.different);
       few = subst (λ ns. length ns ≤ most_leaves) all one;
     }))
 
 -- ---- leaves
-
-one_name : (name : List ℕ) → is_name name ≡ true → AreNames (name ∷ [])
-one_name name formed = All-cons (λ n. is_name n ≡ true) name [] formed (All-nil (λ n. is_name n ≡ true))
 
 record IsElement (f : Field) (w : ElementWords) : Type 0 where
   pub formed : is_name w.name ≡ true
@@ -109,7 +103,7 @@ element_words f r =
     if_found P (i64_of t.2) (refusal.Syntax r.number) _ (λ weight number.
     if_demand P (nat_le (length vec) most_boundary) (refusal.Over limit.Boundary r.number) _ (λ short.
     if_demand P (nat_le (nat_abs weight) most_weight) (refusal.Over limit.Weight r.number) _ (λ light.
-    record { formed = formed; digits = vector_are f t.1 vec digits; short = leb-true _ _ short; light = leb-true _ _ light }))))))
+    record { formed = formed; digits = (text_of_vector f t.1 vec digits).digits; short = leb-true _ _ short; light = leb-true _ _ light }))))))
 
 valid_element : (f : Field) (w : ElementWords) → IsElement f w → IsValidTree f (Elem w.name w.vec w.weight)
 unfolding shape node_names leaf_names depth weights

@@ -1,5 +1,6 @@
 -- A type is accepted exactly where the formula holds.
-use Rattle.std.proofs.Common.{◌≡◌, Bool, true, false, not, ◌&&◌, if◌then◌else◌, List, [], ◌∷◌, map, length, refl, sym, ap, ◌∙◌}
+use Rattle.std.proofs.Common.{◌≡◌, Bool, true, false, not, ◌&&◌, if◌then◌else◌, List, map, length, refl, sym, ap, ◌∙◌}
+use Rattle.std.proofs.lemmas.List.Folds.{list_all-map}
 use Rattle.std.specs.List.{list_any, list_all}
 use Rattle.mm_field.specs.declared.Field.{Field}
 use Rattle.mm_logic.specs.Formula.{Formula, connect}
@@ -21,10 +22,6 @@ use Rattle.mm_logic.specs.Types.{type_of}
 -- a test of all members of a set is a test of all values that it was made of
 pub list_all-collected : (p : Value → Bool) (vs : List Value) → list_all p (members (collected vs)) ≡ list_all p vs
 list_all-collected p vs = list_all-any p (members (collected vs)) ∙ ap not (list_any-collected (λ v. not (p v)) vs) ∙ sym (list_all-any p vs)
-
-list_all-map : {A B : Type 0} (p : B → Bool) (f : A → B) (xs : List A) → list_all p (map f xs) ≡ list_all (λ x. p (f x)) xs
-list_all-map p f [] = refl
-list_all-map p f (x ∷ xs) = ap (λ b. p (f x) && b) (list_all-map p f xs)
 
 member_accepted : (x a : Bool) → (x ≡ false → a ≡ false) → is_flag 1 (if x then member a else unseen) ≡ a
 member_accepted true true h = refl

@@ -5,6 +5,7 @@ use Rattle.std.proofs.lemmas.List.{length-append, length-take-le, take_at, drop_
 use Rattle.std.specs.List.{list_any}
 use Rattle.mm_laws.proofs.AcceptLemmas.{accepts-type_of}
 use Rattle.std.proofs.lemmas.List.Elements.{All-nil, All-cons, All-append, All-map, All-filter, All-contains, filter_passes, Contains-append_left, Contains-append_right}
+use Rattle.std.proofs.Math.IntN.{+ℤ_assoc}
 use Rattle.mm_linear.proofs.SubspaceTests.{Contains-map, Contains-filter}
 use Rattle.mm_logic.specs.Tree.Tree.{Join}
 use Rattle.mm_laws.specs.LeastLaws.{LeastSetIsMeant, LeastSetsRestrict, FirstsOfPairs, AnswerOfFirsts}
@@ -197,15 +198,12 @@ first_unique ws n P X Y f g = go (f.best Y g.size g.member) (g.best X f.size f.m
 add_zero_z : (a : ℤ) → a ≡ pos 0 +ℤ a
 add_zero_z a = omega (arith, ints)
 
-add_assoc_z : (a b c : ℤ) → a +ℤ (b +ℤ c) ≡ (a +ℤ b) +ℤ c
-add_assoc_z a b c = omega (arith, ints)
-
 weight-append : (us vs : List ℤ) (A B : List Bool) → length us ≡ length A → weight (us ++ vs) (A ++ B) ≡ weight us A +ℤ weight vs B
 weight-append [] vs [] B e = add_zero_z (weight vs B)
 weight-append [] vs (a ∷ A) B e = absurd (omega arith)
 weight-append (u ∷ us) vs [] B e = absurd (omega arith)
 weight-append (u ∷ us) vs (true ∷ A) B e =
-    ap (λ w. u +ℤ w) (weight-append us vs A B (omega arith)) ∙ add_assoc_z u (weight us A) (weight vs B)
+    ap (λ w. u +ℤ w) (weight-append us vs A B (omega arith)) ∙ sym (+ℤ_assoc u (weight us A) (weight vs B))
 weight-append (u ∷ us) vs (false ∷ A) B e = weight-append us vs A B (omega arith)
 
 precedes-left : (A A' B : List Bool) → length A ≡ length A' → precedes (A ++ B) (A' ++ B) ≡ precedes A A'

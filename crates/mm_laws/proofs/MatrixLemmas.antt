@@ -1,7 +1,7 @@
 -- The values of `ind` that are read from the matrix are made by the leaf rule and the join rule.
 use Rattle.std.proofs.Common.{◌≡◌, ℕ, suc, zero, ◌+◌, Bool, true, false, not, ◌&&◌, ◌==◌, if◌then◌else◌, List, [], ◌∷◌, ◌++◌, length, map, take, drop, refl, sym, ap, ap₂, ◌∙◌, subst, arith, append-nil, add-zero, length-append, take-append-drop, eqb-true}
 use Rattle.std.specs.List.{list_all, items_where_true}
-use Rattle.std.proofs.lemmas.Bool.{and_parts}
+use Rattle.std.proofs.lemmas.Bool.{and_parts, false≢true, false_from_ne_true}
 use Rattle.std.proofs.lemmas.List.{length-map}
 use Rattle.std.proofs.lemmas.List.Elements.{All-nil, All-cons, All-head, All-tail}
 use Rattle.mm_field.specs.declared.Field.{Field}
@@ -13,7 +13,7 @@ use Rattle.mm_field.proofs.PartLaws.{IsVector-take, IsVector-drop, IsVector-appe
 use Rattle.mm_linear.specs.Decide.{is_independent, is_in_span, meets_in_zero}
 use Rattle.mm_linear.specs.Coordinates.{unit, free_columns, completed, coordinates, in_coordinates}
 use Rattle.mm_linear.specs.Subspaces.{boundary_space, preimage}
-use Rattle.mm_linear.proofs.DecideLaws.{is_independent_decides}
+use Rattle.mm_linear.proofs.DecideLaws.{is_independent_decides, no_rows_independent}
 use Rattle.mm_linear.proofs.BasisLaws.{completed_is_basis, AreVectors-free}
 use Rattle.mm_linear.proofs.CoordinateLaws.{IsVector-coordinates, coordinates_of, coordinates_unique}
 use Rattle.mm_linear.proofs.SubspaceTests.{subspace_same, boundary_space_is, preimage_is}
@@ -148,10 +148,6 @@ boundary_of_leaf f t cs =
     subspace_same f t (λ b. is_in_span f (t + 0) cs (b ++ zeros 0)) (λ b. is_in_span f t cs b)
     (λ b hb. ap₂ (λ n x. is_in_span f n cs x) (add-zero t) (append-nil b))
 
-none_alive : (f : Field) (n : ℕ) → is_independent f n [] ≡ true
-unfolding is_independent
-none_alive f n = refl
-
 pub all_zero : (v : List ℕ) → list_all (λ d. d == 0) v ≡ true → v ≡ zeros (length v)
 all_zero [] e = refl
 all_zero (d ∷ v) e =
@@ -162,30 +158,20 @@ pub zeros_all : (n : ℕ) → list_all (λ d. d == 0) (zeros n) ≡ true
 zeros_all zero = refl
 zeros_all (suc n) = zeros_all n
 
-no : false ≡ true → ⊥
-no e = cc
+one : (f : Field) (n : ℕ) (v : List ℕ) → IsVector f n v → AreVectors f n (v ∷ [])
+one f n v h = All-cons (λ v. IsVector f n v) v [] h (All-nil (λ v. IsVector f n v))
 
 one_alive : (f : Field) (vec : List ℕ) → IsVector f (length vec + 0) vec → (z : Bool) → list_all (λ d. d == 0) vec ≡ z →
     is_independent f (length vec + 0) (vec ∷ []) ≡ not z
 one_alive f vec hv true e =
     let n = length vec + 0 in
     let same : vec ≡ zeros n = all_zero vec e ∙ ap zeros hv.len in
-    not_so (is_independent f n (vec ∷ []))
-    (λ t. zero_dependent f n (subst (λ v. AreIndependent f n (v ∷ [])) same ((is_independent_decides f n (vec ∷ []) (one hv)).0 t)))
-  where
-    not_so : (b : Bool) → (b ≡ true → ⊥) → b ≡ false
-    not_so true q = absurd (q refl)
-    not_so false q = refl
-
-    one : IsVector f (length vec + 0) vec → AreVectors f (length vec + 0) (vec ∷ [])
-    one h = All-cons (λ v. IsVector f (length vec + 0) v) vec [] h (All-nil (λ v. IsVector f (length vec + 0) v))
+    false_from_ne_true (is_independent f n (vec ∷ []))
+    (λ t. zero_dependent f n (subst (λ v. AreIndependent f n (v ∷ [])) same ((is_independent_decides f n (vec ∷ []) (one f n vec hv)).0 t)))
 one_alive f vec hv false e =
     let n = length vec + 0 in
-    (is_independent_decides f n (vec ∷ []) (one hv)).1
-    (one_independent f n vec hv (λ q. no (sym e ∙ ap (list_all (λ d. d == 0)) q ∙ zeros_all n)))
-  where
-    one : IsVector f (length vec + 0) vec → AreVectors f (length vec + 0) (vec ∷ [])
-    one h = All-cons (λ v. IsVector f (length vec + 0) v) vec [] h (All-nil (λ v. IsVector f (length vec + 0) v))
+    (is_independent_decides f n (vec ∷ []) (one f n vec hv)).1
+    (one_independent f n vec hv (λ q. false≢true (sym e ∙ ap (list_all (λ d. d == 0)) q ∙ zeros_all n)))
 
 pub ind_at_elem : (f : Field) (vec : List ℕ) (b : Bool) → IsValid f (Elem vec) → ind_type f (Elem vec) (b ∷ []) ≡ ind_elem f vec b
 ind_at_elem f vec true ok =
@@ -198,10 +184,10 @@ ind_at_elem f vec true ok =
     turned true v = refl
     turned false v = refl
 ind_at_elem f vec false ok =
-    ap₂ (λ b k. if b then Span (length vec) k else Dead) (none_alive f (length vec + 0)) (boundary_of_leaf f (length vec) [])
+    ap₂ (λ b k. if b then Span (length vec) k else Dead) (no_rows_independent f (length vec + 0)) (boundary_of_leaf f (length vec) [])
 
 pub ind_at_void : (f : Field) (t : ℕ) → ind_type f (Void t) [] ≡ ind_void f t
-ind_at_void f t = ap₂ (λ b k. if b then Span t k else Dead) (none_alive f (t + 0)) (boundary_of_leaf f t [])
+ind_at_void f t = ap₂ (λ b k. if b then Span t k else Dead) (no_rows_independent f (t + 0)) (boundary_of_leaf f t [])
 
 alive_if : (b : Bool) (t : ℕ) (k : List (List ℕ)) → is_alive (if b then Span t k else Dead) ≡ b
 alive_if true t k = refl

@@ -2,15 +2,17 @@
 use Rattle.std.proofs.Common.{◌≡◌, ◌<◌, ◌↔◌, ◌⊎◌, ℕ, suc, zero, Bool, true, false, not, ◌&&◌, ◌||◌, List, [], ◌∷◌, map, length, get_or, refl, sym, ap, ◌∙◌, subst, arith, inl, inr}
 use Rattle.std.specs.List.{list_any, list_all}
 use Rattle.std.proofs.lemmas.List.Folds.{list_any-append}
-use Rattle.std.proofs.lemmas.Bool.{or_cases, or_left, or_right, and_parts}
+use Rattle.std.proofs.lemmas.Bool.{or_cases, or_left, or_right, and_parts, and_from, both_ways, not-true, false_from_ne_true}
+use Rattle.std.proofs.Math.Bool.{or-false}
 use Rattle.mm_logic.specs.Formula.{Connective, connect, implies, iff}
 use Rattle.mm_logic.specs.Formula.Connective.{And, Or, Implies, Iff}
 use Rattle.mm_logic.specs.Formula.Formula.{Const, Ind, Member, SameElem, Sub, SameSet, Not, Bin, ExSet, AllSet, ExElem, AllElem}
 use Rattle.mm_logic.specs.Marks.{Marks, no_marks, assign, none, only, sets, singles}
 use Rattle.mm_logic.specs.Meaning.{union, Connected, Holds, holds}
 use Rattle.mm_laws.specs.MeaningLaws.{MeaningIsDecided}
-use Rattle.mm_logic.proofs.SetLemmas.{or-false, list_any-map, list_all-any}
+use Rattle.mm_logic.proofs.SetLemmas.{list_any-map, list_all-any}
 use Rattle.mm_laws.proofs.MatrixLemmas.{independence_decided}
+use Rattle.mm_linear.proofs.SpaceLaws.{false_true}
 
 -- b decides P
 abbrev Decides : Bool → Type 0 → Type 0
@@ -87,17 +89,9 @@ all_elements p (m ∷ ms) h = (λ i. h zero i && list_all p ms) ∙ all_elements
 
 -- ---- truth tables
 
-no_truth : {P : Type 0} → false ≡ true → P
-no_truth e = let c : false ≡ true = e in cc
-
-both_hold : (a b : Bool) → a ≡ true → b ≡ true → (a && b) ≡ true
-both_hold true true h k = refl
-both_hold true false h k = k
-both_hold false b h k = h
-
 implies_says : (a b : Bool) → implies a b ≡ true → a ≡ true → b ≡ true
 implies_says true b h k = h
-implies_says false b h k = no_truth k
+implies_says false b h k = false_true _ k
 
 implies_from : (a b : Bool) → (a ≡ true → b ≡ true) → implies a b ≡ true
 implies_from true b h = h refl
@@ -105,7 +99,7 @@ implies_from false b h = refl
 
 iff_says : (a b : Bool) → iff a b ≡ true → (a ≡ true) ↔ (b ≡ true)
 iff_says true b h = ((λ e. h), (λ e. refl))
-iff_says false true h = no_truth h
+iff_says false true h = false_true _ h
 iff_says false false h = ((λ e. e), (λ e. e))
 
 iff_from : (a b : Bool) → (a ≡ true) ↔ (b ≡ true) → iff a b ≡ true
@@ -114,12 +108,12 @@ iff_from false true h = h.1 refl
 iff_from false false h = refl
 
 negation : (b : Bool) (P : Type 0) → Decides b P → Decides (not b) (P → ⊥)
-negation true P h = ((λ e. no_truth e), (λ k. absurd (k (h.0 refl))))
-negation false P h = ((λ e p. no_truth (h.1 p)), (λ k. refl))
+negation true P h = ((λ e. false_true _ e), (λ k. absurd (k (h.0 refl))))
+negation false P h = ((λ e p. false_true _ (h.1 p)), (λ k. refl))
 
 connective : (o : Connective) (b c : Bool) (P Q : Type 0) → Decides b P → Decides c Q → Decides (connect o b c) (Connected o P Q)
 connective And b c P Q h k =
-    ((λ e. let parts = and_parts b c e in (h.0 parts.0, k.0 parts.1)), (λ p. both_hold b c (h.1 p.0) (k.1 p.1)))
+    ((λ e. let parts = and_parts b c e in (h.0 parts.0, k.0 parts.1)), (λ p. and_from b c (h.1 p.0) (k.1 p.1)))
 connective Or b c P Q h k = ((λ e. split (or_cases b c e)), merge)
   where
     split : (b ≡ true) ⊎ (c ≡ true) → P ⊎ Q
@@ -137,18 +131,10 @@ connective Iff b c P Q h k = (
 
 -- all pass where none fails
 all_from_none : {A : Type 0} (p : A → Bool) (xs : List A) → (list_any (λ x. not (p x)) xs ≡ true → ⊥) → list_all p xs ≡ true
-all_from_none p xs h = list_all-any p xs ∙ ap not (no (list_any (λ x. not (p x)) xs) h)
-  where
-    no : (b : Bool) → (b ≡ true → ⊥) → b ≡ false
-    no true q = absurd (q refl)
-    no false q = refl
+all_from_none p xs h = list_all-any p xs ∙ ap not (false_from_ne_true (list_any (λ x. not (p x)) xs) h)
 
 none_fails : {A : Type 0} (p : A → Bool) (xs : List A) → list_all p xs ≡ true → list_any (λ x. not (p x)) xs ≡ true → ⊥
-none_fails p xs h k = no_truth (sym (ap not k) ∙ sym (list_all-any p xs) ∙ h)
-
-fails : (b : Bool) → not b ≡ true → b ≡ true → ⊥
-fails true h k = no_truth h
-fails false h k = no_truth k
+none_fails p xs h k = false_true _ (sym (ap not k) ∙ sym (list_all-any p xs) ∙ h)
 
 passes : (b : Bool) → (not b ≡ true → ⊥) → b ≡ true
 passes true h = refl
@@ -167,7 +153,7 @@ all_sets_decide : (p : List Bool → Bool) (P : List Bool → Type 0) (n : ℕ) 
     → Decides (list_all p (sets n)) ((X : List Bool) → length X ≡ n → P X)
 all_sets_decide p P n h = (
   (λ e X l. (h X).0 (passes (p X) (λ q. none_fails p (sets n) e (subst (λ k. list_any (λ Y. not (p Y)) (sets k) ≡ true) l (from_set (λ Y. not (p Y)) X q))))),
-  (λ each. all_from_none p (sets n) (λ e. let r = some_set (λ Y. not (p Y)) n e in fails (p r.0) r.2 ((h r.0).1 (each r.0 r.1)))),
+  (λ each. all_from_none p (sets n) (λ e. let r = some_set (λ Y. not (p Y)) n e in both_ways (p r.0) (not-true (p r.0) r.2) ((h r.0).1 (each r.0 r.1)))),
 )
 
 some_element_decides : (p : List Bool → Bool) (P : List Bool → Type 0) (n : ℕ) → ((X : List Bool) → Decides (p X) (P X))
@@ -181,7 +167,7 @@ all_elements_decide : (p : List Bool → Bool) (P : List Bool → Type 0) (n : �
     → Decides (list_all p (singles n)) ((i : ℕ) → i < n → P (only n i))
 all_elements_decide p P n h = (
   (λ e i l. (h (only n i)).0 (passes (p (only n i)) (λ q. none_fails p (singles n) e (from_only (λ Y. not (p Y)) n i l q)))),
-  (λ each. all_from_none p (singles n) (λ e. let r = some_only (λ Y. not (p Y)) n e in fails (p (only n r.0)) r.2 ((h (only n r.0)).1 (each r.0 r.1)))),
+  (λ each. all_from_none p (singles n) (λ e. let r = some_only (λ Y. not (p Y)) n e in both_ways (p (only n r.0)) (not-true (p (only n r.0)) r.2) ((h (only n r.0)).1 (each r.0 r.1)))),
 )
 
 -- ---- the law
@@ -191,11 +177,11 @@ meaning_decided f T ok (Const b) ms = ((λ e. e), (λ e. e))
 meaning_decided f T ok (Ind t) ms = independence_decided f T ok (union t ms)
 meaning_decided f T ok (Member x a) ms = (
   (λ e. let r = some_element (λ m. m x && m a) ms e in let parts = and_parts (get_or ms r.0 no_marks x) (get_or ms r.0 no_marks a) r.1 in (r.0, parts.0, parts.1)),
-  (λ r. from_element (λ m. m x && m a) ms r.0 refl (both_hold (get_or ms r.0 no_marks x) (get_or ms r.0 no_marks a) r.1 r.2)),
+  (λ r. from_element (λ m. m x && m a) ms r.0 refl (and_from (get_or ms r.0 no_marks x) (get_or ms r.0 no_marks a) r.1 r.2)),
 )
 meaning_decided f T ok (SameElem x y) ms = (
   (λ e. let r = some_element (λ m. m x && m y) ms e in let parts = and_parts (get_or ms r.0 no_marks x) (get_or ms r.0 no_marks y) r.1 in (r.0, parts.0, parts.1)),
-  (λ r. from_element (λ m. m x && m y) ms r.0 refl (both_hold (get_or ms r.0 no_marks x) (get_or ms r.0 no_marks y) r.1 r.2)),
+  (λ r. from_element (λ m. m x && m y) ms r.0 refl (and_from (get_or ms r.0 no_marks x) (get_or ms r.0 no_marks y) r.1 r.2)),
 )
 meaning_decided f T ok (Sub a b) ms = (
   (λ e i. implies_says (get_or ms i no_marks a) (get_or ms i no_marks b) (each_element (λ m. implies (m a) (m b)) ms refl e i)),

@@ -26,7 +26,7 @@ map-map-same : (g k : List ℕ → ℕ) (h : List ℕ → List ℕ) (xs : List (
 map-map-same g k h [] e = refl
 map-map-same g k h (x ∷ xs) e = ap₂ (λ a b. a ∷ b) (e 0 x (omega arith)) (map-map-same g k h xs (λ i d l. e (suc i) d (omega arith)))
 
-map-zero : (xs : List (List ℕ)) → map (λ u. 0) xs ≡ zeros (length xs)
+pub map-zero : (xs : List (List ℕ)) → map (λ u. 0) xs ≡ zeros (length xs)
 map-zero [] = refl
 map-zero (x ∷ xs) = ap (λ a. 0 ∷ a) (map-zero xs)
 

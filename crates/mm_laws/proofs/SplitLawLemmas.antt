@@ -1,6 +1,7 @@
 -- Sets and elements of a join are those of its children, in exactly one way.
 use Rattle.std.proofs.Common.{◌≡◌, ◌<◌, ◌+◌, ℕ, suc, zero, Bool, true, false, List, [], ◌∷◌, ◌++◌, length, take, drop, refl, sym, ap, ◌∙◌, arith}
 use Rattle.std.proofs.lemmas.List.{length-take-le, length-drop, take-append-drop}
+use Rattle.std.proofs.Math.Nat.{zero-add}
 use Rattle.mm_logic.specs.Marks.{none, only}
 use Rattle.mm_logic.specs.Tree.{size}
 use Rattle.mm_laws.specs.SplitLaws.{SetsSplitOnce, ElementsSplitOnce}
@@ -36,10 +37,7 @@ only_left (suc n) m (suc i) l =
     ap (λ k. only k (suc i)) (let e : suc n + m ≡ suc (n + m) = omega arith in e) ∙ ap (λ X. false ∷ X) (only_left n m i (omega (arith, l)))
 
 only_right : (n m i : ℕ) → only (n + m) (n + i) ≡ none n ++ only m i
-only_right zero m i = (λ j. only (zero_front m j) (zero_front i j))
-  where
-    zero_front : (k : ℕ) → 0 + k ≡ k
-    zero_front k = omega arith
+only_right zero m i = (λ j. only (zero-add m j) (zero-add i j))
 only_right (suc n) m i =
     (λ j. only (suc_front n m j) (suc_front n i j)) ∙ ap (λ X. false ∷ X) (only_right n m i)
   where

@@ -4,7 +4,9 @@ use Rattle.std.proofs.lemmas.List.{map-append}
 use borrow.Author.Tests.{eqb-true}
 use Rattle.std.specs.List.{list_any}
 use Rattle.std.proofs.lemmas.List.Folds.{list_any-append}
-use Rattle.mm_logic.proofs.SetLemmas.{or-false, list_any-map}
+use Rattle.std.proofs.lemmas.Bool.{or_parts}
+use Rattle.std.proofs.Math.Bool.{or-false}
+use Rattle.mm_logic.proofs.SetLemmas.{list_any-map}
 use Rattle.mm_logic.specs.Marks.{Marks, mark, assign, none, sets, singles, AtMostOne, column, Singles}
 
 pub length-assign : (k : ℕ) (X : List Bool) (ms : List Marks) → length (assign k X ms) ≡ length ms
@@ -67,7 +69,7 @@ unfolding Each
 list_any-within P p q e [] h = refl
 list_any-within P p q e (x ∷ xs) h = λ i. e x h.0 i || list_any-within P p q e xs h.1 i
 
-any-none : (n : ℕ) → any (none n) ≡ false
+pub any-none : (n : ℕ) → any (none n) ≡ false
 any-none zero = refl
 any-none (suc n) = any-none n
 
@@ -88,10 +90,6 @@ pub Each-singles : (n : ℕ) → Each AtMostOne (singles n)
 unfolding Each
 Each-singles zero = tt
 Each-singles (suc n) = ((λ e. any-none n, AtMostOne-none n), Each-map AtMostOne (λ X. false ∷ X) (λ X h. (λ e. let c : false ≡ true = e in cc, h)) (singles n) (Each-singles n))
-
-or_parts : (a b : Bool) → (a || b) ≡ false → (a ≡ false) × (b ≡ false)
-or_parts true b h = (h, let c : true ≡ false = h in cc)
-or_parts false b h = (refl, h)
 
 same_number : (k : ℕ) → (k == k) ≡ true
 same_number k = eq-eqb k k refl
@@ -165,6 +163,3 @@ Singles-elem e k X Y us vs h own j is = by (j == k) refl is
     by : (t : Bool) → (j == k) ≡ t → (if t then true else e j) ≡ true → AtMostOne (column j (assign k X us ++ assign k Y vs))
     by true eq c = subst (λ i. AtMostOne (column i (assign k X us ++ assign k Y vs))) (sym (eqb-true j k eq)) own
     by false eq c = kept_singles k j X Y us vs eq (h j c)
-
-pub none-any : (n : ℕ) → any (none n) ≡ false
-none-any n = any-none n

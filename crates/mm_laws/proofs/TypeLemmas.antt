@@ -3,15 +3,16 @@ use Rattle.std.proofs.Common.{◌≡◌, ℕ, suc, zero, Bool, true, false, ◌&
 use Rattle.std.specs.List.{list_any}
 use Rattle.std.proofs.lemmas.List.Folds.{list_any-append, list_all-append}
 use Rattle.std.proofs.lemmas.List.{map-append, length-map, take-append-drop, length-take-le, length-drop}
+use Rattle.std.proofs.Math.Bool.{or-false}
 use Rattle.mm_field.specs.declared.Field.{Field}
 use Rattle.mm_logic.specs.Formula.{Formula, implies, iff}
 use Rattle.mm_logic.specs.Formula.Formula.{Const, Ind, Member, SameElem, Sub, SameSet, Not, Bin, ExSet, AllSet, ExElem, AllElem}
 use Rattle.mm_logic.specs.Value.{Value, members, collected}
 use Rattle.mm_logic.specs.Value.Value.{Pair}
 use Rattle.mm_logic.specs.Tree.Tree.{Elem, Void, Join}
-use Rattle.mm_logic.proofs.SetLemmas.{or-false, list_any-map, list_any-flat_map}
+use Rattle.mm_logic.proofs.SetLemmas.{list_any-map, list_any-flat_map}
 use Rattle.mm_logic.proofs.ValueLemmas.{list_any-collected, collected-same}
-use Rattle.mm_laws.proofs.SplitLemmas.{length-assign, sets-append, singles-append, assign_none-append, any-column, list_any-within, AtMostOne-none, none-any, Each-singles, column-append, AtMostOne-both, AtMostOne-apart, AtMostOne-left, AtMostOne-right, Singles-set, Singles-elem}
+use Rattle.mm_laws.proofs.SplitLemmas.{length-assign, sets-append, singles-append, assign_none-append, any-column, list_any-within, AtMostOne-none, Each-singles, column-append, AtMostOne-both, AtMostOne-apart, AtMostOne-left, AtMostOne-right, Singles-set, Singles-elem, any-none}
 use Rattle.mm_logic.specs.AtomValues.{unseen, member, same_elem, holding, member_join, same_elem_join, holding_join}
 use Rattle.mm_logic.specs.JoinRule.{all_pairs, set_join, lettered, join_type, joined}
 use Rattle.mm_logic.specs.LeafRule.{elem_type, void_type}
@@ -71,10 +72,10 @@ module _ (k : ℕ) (us vs : List Marks) (j : Value → Value → Value) (g f h :
       ∙ singles-append k (λ z. p (g z)) us vs
       ∙ (λ i.
       list_any-within AtMostOne (λ X. p (g (assign k X us ++ assign k m vs))) (λ X. p (j (F X) (H m)))
-      (λ X one. ap p (e X m (AtMostOne-both k X m us vs one (AtMostOne-none (length vs)) (inr (none-any (length vs))))))
+      (λ X one. ap p (e X m (AtMostOne-both k X m us vs one (AtMostOne-none (length vs)) (inr (any-none (length vs))))))
       (singles (length us)) (Each-singles (length us)) i
       || list_any-within AtMostOne (λ Y. p (g (assign k n us ++ assign k Y vs))) (λ Y. p (j (F n) (H Y)))
-      (λ Y one. ap p (e n Y (AtMostOne-both k n Y us vs (AtMostOne-none (length us)) one (inl (none-any (length us))))))
+      (λ Y one. ap p (e n Y (AtMostOne-both k n Y us vs (AtMostOne-none (length us)) one (inl (any-none (length us))))))
       (singles (length vs)) (Each-singles (length vs)) i)
       ∙ sym (
       list_any-append p (map (λ x. j x (H m)) (members (collected (map F (singles (length us)))))) (map (j (F n)) (members (collected (map H (singles (length vs))))))
@@ -164,14 +165,14 @@ module _ (f : Field) where
       join_law F (mark k true e) op l r (assign k X us) (assign k Y vs) w (Singles-elem e k X Y us vs s one) (length-assign k X us ∙ m) (length-assign k Y vs ∙ n) ok in
       λ i. Pair
       ((ap (type_of f F (Join op l r)) (assign_none-append k us vs)
-      ∙ below (none (length us)) (none (length vs)) (AtMostOne-both k (none (length us)) (none (length vs)) us vs (AtMostOne-none (length us)) (AtMostOne-none (length vs)) (inl (none-any (length us))))) i)
+      ∙ below (none (length us)) (none (length vs)) (AtMostOne-both k (none (length us)) (none (length vs)) us vs (AtMostOne-none (length us)) (AtMostOne-none (length vs)) (inl (any-none (length us))))) i)
       (elem_law k us vs (join_type f F op) (type_of f F (Join op l r)) (type_of f F l) (type_of f F r) below i)
   join_law (AllElem k F) e op l r us vs w s m n ok =
       let below = λ (X Y : List Bool) (one : AtMostOne (column k (assign k X us ++ assign k Y vs))).
       join_law F (mark k true e) op l r (assign k X us) (assign k Y vs) w (Singles-elem e k X Y us vs s one) (length-assign k X us ∙ m) (length-assign k Y vs ∙ n) ok in
       λ i. Pair
       ((ap (type_of f F (Join op l r)) (assign_none-append k us vs)
-      ∙ below (none (length us)) (none (length vs)) (AtMostOne-both k (none (length us)) (none (length vs)) us vs (AtMostOne-none (length us)) (AtMostOne-none (length vs)) (inl (none-any (length us))))) i)
+      ∙ below (none (length us)) (none (length vs)) (AtMostOne-both k (none (length us)) (none (length vs)) us vs (AtMostOne-none (length us)) (AtMostOne-none (length vs)) (inl (any-none (length us))))) i)
       (elem_law k us vs (join_type f F op) (type_of f F (Join op l r)) (type_of f F l) (type_of f F r) below i)
 
   -- ---- the leaf rule

@@ -3,9 +3,10 @@ use Rattle.std.proofs.Common.{ℕ, zero, suc, ◌+◌, ◌-◌, ◌<◌, ◌≤�
 use Rattle.std.specs.Prelude.{is_some, Option, Some, None}
 use Rattle.std.specs.List.{range_with_len}
 use Rattle.std.proofs.lemmas.Bool.{cases_eq, and_parts}
-use Rattle.std.proofs.lemmas.List.{length-replicate, length-map, length-take-le, take_at, take-replicate, get_or-replicate, get_or-take, get_or_push}
+use Rattle.std.proofs.lemmas.List.{length-replicate, length-map, length-take-le, take_at, take-replicate, get_or-replicate, get_or-take, get_or_push, map-append}
 use Rattle.std.proofs.Math.Seq.{take-suc}
-use Rattle.std.proofs.lemmas.List.Elements.{All-nil, All-cons, All-append, All-take}
+use Rattle.std.proofs.lemmas.List.Elements.{All-nil, All-cons, All-append, All-take, filter-append}
+use Rattle.std.proofs.lemmas.List.FromFn.{map-range_with_len_more}
 use Rattle.mm_field.specs.declared.Field.{Field}
 use Rattle.mm_field.specs.Digits.{order, times, negative}
 use Rattle.mm_field.specs.Vectors.{zeros, vector_sum, multiple, combination, IsVector, AreVectors, InSpan, AreIndependent}
@@ -396,3 +397,27 @@ free_count f t c g e h ind =
 
 pub AreVectors-free : (f : Field) (r : ℕ) (g : List (List ℕ)) → AreVectors f r (map (unit r) (free_columns f r g))
 AreVectors-free f r g = AreVectors-units f r (is_free f g) 0 r (omega arith)
+
+pub range_one_more : (k : ℕ) → range_with_len 0 (k + 1) ≡ range_with_len 0 k ++ (k ∷ [])
+range_one_more k = sym (same (range_with_len 0 (k + 1))) ∙ map-range_with_len_more (λ x. x) 0 k k (omega arith) ∙ ap (λ xs. xs ++ (k ∷ [])) (same (range_with_len 0 k))
+  where
+    same : (xs : List ℕ) → map (λ x. x) xs ≡ xs
+    same [] = refl
+    same (x ∷ xs) = ap (λ ys. x ∷ ys) (same xs)
+
+-- the unit vectors at the free columns up to k + 1 are those up to k, and perhaps one more
+pub free_next : (f : Field) (r k : ℕ) (g : List (List ℕ)) (b : Bool) → b ≡ is_pivot f g k →
+    map (unit r) (filter (λ j. not (is_pivot f g j)) (range_with_len 0 (k + 1)))
+    ≡ map (unit r) (filter (λ j. not (is_pivot f g j)) (range_with_len 0 k)) ++ cond (not b) (unit r k ∷ []) []
+free_next f r k g b e =
+    ap (λ xs. map (unit r) (filter q xs)) (range_one_more k)
+    ∙ ap (map (unit r)) (filter-append q (range_with_len 0 k) (k ∷ []))
+    ∙ map-append (unit r) (filter q (range_with_len 0 k)) (filter q (k ∷ []))
+    ∙ ap (λ xs. map (unit r) (filter q (range_with_len 0 k)) ++ xs) (by (is_pivot f g k) ∙ ap (λ c. cond (not c) (unit r k ∷ []) []) (sym e))
+  where
+    q : ℕ → Bool
+    q = λ j. not (is_pivot f g j)
+
+    by : (c : Bool) → map (unit r) (cond (not c) (k ∷ []) []) ≡ cond (not c) (unit r k ∷ []) []
+    by true = refl
+    by false = refl

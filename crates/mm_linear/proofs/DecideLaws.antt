@@ -156,3 +156,7 @@ is_independent_decides f n (v ∷ vs) h =
           (λ q. new_is_outside f n v (echelon_of f n vs) p r.echelon hv e ((in_rest f n v vs hs r).0 q))),
       (λ ind. and_from _ _ (rest.1 (independent_rest f n v vs hv ind)) (ap is_some e)),
     )
+
+pub no_rows_independent : (f : Field) (n : ℕ) → is_independent f n [] ≡ true
+unfolding is_independent
+no_rows_independent f n = refl

@@ -3,25 +3,21 @@ use Rattle.std.proofs.Common.{ℕ, zero, suc, ◌<◌, ◌≡◌, ◌≢◌, inl
 use Rattle.std.proofs.lemmas.Bool.{cases_order}
 use Rattle.std.proofs.lemmas.List.{get_or-replicate, ext_get_or}
 use Rattle.mm_field.specs.declared.Field.{Field}
-use Rattle.mm_field.specs.Digits.{order, plus, times}
-use Rattle.mm_field.specs.Vectors.{zeros, vector_sum, multiple, combination, IsVector, AreVectors, InSpan, IsWithin, SameRowSpace, through}
-use Rattle.mm_field.proofs.Tables.{plus_comm, times_comm, times-zero, times_below, plus_zero_digit, times_one_digit, zero_digit}
-use Rattle.mm_field.proofs.VectorLaws.{get_or-vector_sum, get_or-multiple, length-multiple}
+use Rattle.mm_field.specs.Digits.{order, plus, times, negative}
+use Rattle.mm_field.specs.Vectors.{zeros, combination, IsVector, AreVectors, InSpan, IsWithin, SameRowSpace, through}
+use Rattle.mm_field.proofs.Tables.{plus_comm, times_comm, times-zero, times_below, plus_zero_digit, times_one_digit, zero_digit, negative-times}
+use Rattle.mm_field.proofs.VectorLaws.{step_entry}
 use Rattle.mm_field.proofs.CombinationLaws.{first_row, other_rows, IsVector-combination, combination-zeros, combination-through}
 use Rattle.mm_linear.specs.Echelons.{entry, IsEchelon}
 
 pub zero-times : (f : Field) (a : ℕ) → times f 0 a ≡ 0
 zero-times f a = times_comm f 0 a ∙ times-zero f a
 
+pub negative-zero : (f : Field) → negative f 0 ≡ 0
+negative-zero f = negative-times f 0 ∙ times-zero f (negative f 1)
+
 pub zero_plus_digit : (f : Field) (a : ℕ) → a < order f → plus f 0 a ≡ a
 zero_plus_digit f a l = plus_comm f 0 a ∙ plus_zero_digit f a l
-
--- the entry of a vector_sum of a multiple and a vector of n entries
-step_entry : (f : Field) (n c : ℕ) (v w : List ℕ) (j : ℕ) → length v ≡ n → length w ≡ n → j < n →
-    get_or (vector_sum f (multiple f c v) w) j 0 ≡ plus f (times f c (get_or v j 0)) (get_or w j 0)
-step_entry f n c v w j p q l =
-    get_or-vector_sum f (multiple f c v) w j (length-multiple f c v ∙ p ∙ sym q) (omega arith)
-    ∙ ap (λ x. plus f x (get_or w j 0)) (get_or-multiple f c v j (omega arith))
 
 -- an entry of a combination whose terms are all zero there
 pub combination_entry_zero : (f : Field) (n : ℕ) (cs : List ℕ) (rows : List (List ℕ)) (j : ℕ) → AreVectors f n rows → j < n →

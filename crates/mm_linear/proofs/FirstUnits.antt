@@ -4,6 +4,7 @@ use Rattle.std.specs.List.{range_with_len}
 use Rattle.std.proofs.lemmas.List.{map-append, length-map, length-replicate}
 use Rattle.std.proofs.lemmas.List.Elements.{All-nil, All-cons, filter-append}
 use Rattle.std.proofs.lemmas.List.FromFn.{length-range_with_len, get_or-range_with_len}
+use Rattle.std.proofs.lemmas.Bool.{false_from_ne_true}
 use Rattle.mm_field.specs.declared.Field.{Field}
 use Rattle.mm_field.specs.Digits.{order}
 use Rattle.mm_field.specs.Vectors.{zeros, vector_sum, combination, IsVector, AreVectors, AreIndependent}
@@ -50,17 +51,13 @@ pivot_below f r t k l m =
     (k, omega (arith, length-range_with_len 0 t), get_or-range_with_len 0 t k k m ∙ omega arith)
 
 pivot_above : (f : Field) (r t k : ℕ) → t ≤ r → t ≤ k → k < r → is_pivot f (first_units r t) k ≡ false
-pivot_above f r t k l m n = not_so (is_pivot f (first_units r t) k) (λ e.
+pivot_above f r t k l m n = false_from_ne_true (is_pivot f (first_units r t) k) (λ e.
     let c = (pivots_are_leads f r 0 (first_units r t) (first_units r t) (range_with_len 0 t) (unit_rows f r t 0 (omega arith)) (unit_rows f r t 0 (omega arith))
     (IsWithin-itself f r (first_units r t) (unit_rows f r t 0 (omega arith)), IsWithin-itself f r (first_units r t) (unit_rows f r t 0 (omega arith)))
     (unit_leads r t 0 (omega arith)) k n).0 e in
     let i = in_range t 0 k c.0 c.1 c.2 in
     let a : k < 0 + t = i.1 in
     omega arith)
-  where
-    not_so : (b : Bool) → (b ≡ true → ⊥) → b ≡ false
-    not_so true h = absurd (h refl)
-    not_so false h = refl
 
 range_parts : (a t c : ℕ) → range_with_len a (t + c) ≡ range_with_len a t ++ range_with_len (a + t) c
 range_parts a zero c = ap₂ (λ x y. range_with_len x y) (let e : a ≡ a + 0 = omega arith in e) (let e : 0 + c ≡ c = omega arith in e)

@@ -7,11 +7,11 @@ use Rattle.mm_field.specs.declared.Field.{Field}
 use Rattle.mm_field.specs.Digits.{order, plus, times, negative, inverse}
 use Rattle.mm_field.specs.Vectors.{zeros, vector_sum, multiple, combination, IsVector, AreVectors, InSpan, IsWithin, SameRowSpace}
 use Rattle.mm_field.proofs.Tables.{plus_comm, times_comm, times-zero, negative_below, plus-negative, negative-times, plus_zero_digit, times_one_digit, times-inverse, zero_digit, one_digit}
-use Rattle.mm_field.proofs.VectorLaws.{get_or-vector_sum, get_or-multiple, length-multiple, vector_sum_comm, vector_sum_assoc, opposite-vector_sum, vector_sum-zeros, zeros-vector_sum, zero-multiple, one-multiple, multiple-times, multiple-plus, IsVector-vector_sum, IsVector-multiple}
+use Rattle.mm_field.proofs.VectorLaws.{get_or-multiple, length-multiple, vector_sum_comm, vector_sum_assoc, opposite-vector_sum, vector_sum-zeros, zeros-vector_sum, zero-multiple, one-multiple, multiple-times, multiple-plus, IsVector-vector_sum, IsVector-multiple, sum_entry}
 use Rattle.mm_field.proofs.CombinationLaws.{zeros_twice, IsVector-combination, IsWithin-itself, InSpan-vector_sum, InSpan-multiple, InSpan-zeros, InSpan-first, InSpan-one_more, InSpan-combination}
 use Rattle.mm_linear.specs.Echelons.{entry, IsEchelon}
 use Rattle.mm_linear.specs.Eliminate.{residue, cleared, inserted}
-use Rattle.mm_linear.proofs.EchelonLaws.{zero-times, combination_entry, row_at, span_is_fixed, zero_not_one}
+use Rattle.mm_linear.proofs.EchelonLaws.{zero-times, combination_entry, row_at, span_is_fixed, zero_not_one, negative-zero}
 
 pub IsVector-residue : (f : Field) (n : ℕ) (v : List ℕ) (rows : List (List ℕ)) → AreVectors f n rows → IsVector f n v →
     IsVector f n (residue f n v rows)
@@ -19,19 +19,20 @@ IsVector-residue f n v rows h hv =
     IsVector-vector_sum f n v (multiple f (negative f 1) (combination f n v rows)) hv.len
     (length-multiple f (negative f 1) (combination f n v rows) ∙ (IsVector-combination f n v rows h).len)
 
+-- an entry of the residue
+pub residue_entry : (f : Field) (n : ℕ) (v : List ℕ) (rows : List (List ℕ)) → AreVectors f n rows → IsVector f n v → (j : ℕ) → j < n →
+    get_or (residue f n v rows) j 0 ≡ plus f (get_or v j 0) (times f (negative f 1) (get_or (combination f n v rows) j 0))
+residue_entry f n v rows h hv j l = sum_entry f n (negative f 1) v (combination f n v rows) j hv.len (IsVector-combination f n v rows h).len l
+
 -- the residue is zero where a row ends
 pub residue_at_pivot : (f : Field) (n : ℕ) (v : List ℕ) (rows : List (List ℕ)) → IsEchelon f n rows → IsVector f n v →
     (k : ℕ) → k < n → entry rows k k ≡ 1 → get_or (residue f n v rows) k 0 ≡ 0
 residue_at_pivot f n v rows h hv k l one =
-    let hc = IsVector-combination f n v rows h.each in
     let lv : length v ≡ n = hv.len in
-    let lc : length (combination f n v rows) ≡ n = hc.len in
-    let lm = length-multiple f (negative f 1) (combination f n v rows) in
     let dv : get_or v k 0 < order f = hv.digits k 0 (omega arith) in
-    get_or-vector_sum f v (multiple f (negative f 1) (combination f n v rows)) k (lv ∙ sym lc ∙ sym lm) (omega arith)
+    residue_entry f n v rows h.each hv k l
     ∙ ap (λ x. plus f (get_or v k 0) x)
-    (get_or-multiple f (negative f 1) (combination f n v rows) k (omega arith)
-    ∙ ap (times f (negative f 1))
+    (ap (times f (negative f 1))
     (combination_entry f n v rows k k h.each l
     (λ i li ne. ap (λ x. times f (get_or v i 0) x)
     (h.clear i k (let e : length rows ≡ n = h.count in omega arith) l ne one) ∙ times-zero f (get_or v i 0))
@@ -75,17 +76,9 @@ pub record IsNewRow (f : Field) (n : ℕ) (rows : List (List ℕ)) (p : ℕ) (w 
   pub late : (j : ℕ) → p < j → j < n → get_or w j 0 ≡ 0
   pub clean : (k : ℕ) → k < n → entry rows k k ≡ 1 → get_or w k 0 ≡ 0
 
-opp_zero : (f : Field) → negative f 0 ≡ 0
-opp_zero f = negative-times f 0 ∙ times-zero f (negative f 1)
-
-cleared_entry : (f : Field) (n p : ℕ) (w row : List ℕ) → IsVector f n w → IsVector f n row → (j : ℕ) → j < n →
+pub cleared_entry : (f : Field) (n p : ℕ) (w row : List ℕ) → IsVector f n w → IsVector f n row → (j : ℕ) → j < n →
     get_or (cleared f p w row) j 0 ≡ plus f (get_or row j 0) (times f (negative f (get_or row p 0)) (get_or w j 0))
-cleared_entry f n p w row hw hr j l =
-    let lw : length w ≡ n = hw.len in
-    let lr : length row ≡ n = hr.len in
-    let lm = length-multiple f (negative f (get_or row p 0)) w in
-    get_or-vector_sum f row (multiple f (negative f (get_or row p 0)) w) j (lr ∙ sym lw ∙ sym lm) (omega arith)
-    ∙ ap (λ x. plus f (get_or row j 0) x) (get_or-multiple f (negative f (get_or row p 0)) w j (omega arith))
+cleared_entry f n p w row hw hr j l = sum_entry f n (negative f (get_or row p 0)) row w j hr.len hw.len l
 
 pub IsVector-cleared : (f : Field) (n p : ℕ) (w row : List ℕ) → IsVector f n w → IsVector f n row →
     IsVector f n (cleared f p w row)
@@ -96,7 +89,7 @@ IsVector-cleared f n p w row hw hr =
 cleared_zero : (f : Field) (n p : ℕ) (w : List ℕ) → IsVector f n w → p < n → cleared f p w (zeros n) ≡ zeros n
 cleared_zero f n p w hw l =
     ap (λ a. vector_sum f (zeros n) (multiple f (negative f a) w)) (get_or-replicate n p 0 0 l)
-    ∙ ap (λ a. vector_sum f (zeros n) (multiple f a w)) (opp_zero f)
+    ∙ ap (λ a. vector_sum f (zeros n) (multiple f a w)) (negative-zero f)
     ∙ ap (λ x. vector_sum f (zeros n) x) (zero-multiple f w ∙ ap zeros hw.len)
     ∙ zeros_twice f n
 
@@ -124,7 +117,7 @@ sum_of_zeros f a b p q = ap₂ (λ x y. plus f x y) p q ∙ plus_zero_digit f 0 
 
 -- the entry of a row of which the digit at p is zero
 pub kept_where_zero : (f : Field) (a b : ℕ) → a ≡ 0 → times f (negative f a) b ≡ 0
-kept_where_zero f a b e = ap (λ x. times f (negative f x) b) e ∙ ap (λ x. times f x b) (opp_zero f) ∙ zero-times f b
+kept_where_zero f a b e = ap (λ x. times f (negative f x) b) e ∙ ap (λ x. times f x b) (negative-zero f) ∙ zero-times f b
 
 inserted_after : (f : Field) (n p : ℕ) (w : List ℕ) (rows : List (List ℕ)) → IsEchelon f n rows → IsNewRow f n rows p w →
     (i j : ℕ) → i < j → j < n → entry (inserted f p w rows) i j ≡ 0
@@ -163,7 +156,7 @@ inserted_pivot f n p w rows h new i l =
     ]
 
 -- the digit of a cleared row at p
-cleared_at : (f : Field) (a : ℕ) (b : ℕ) → b ≡ 1 → plus f a (times f (negative f a) b) ≡ 0
+pub cleared_at : (f : Field) (a : ℕ) (b : ℕ) → b ≡ 1 → plus f a (times f (negative f a) b) ≡ 0
 cleared_at f a b e =
     ap (λ x. plus f a (times f (negative f a) x)) e
     ∙ ap (λ x. plus f a x) (times_one_digit f (negative f a) (negative_below f a))

@@ -213,10 +213,6 @@ InImage-multiple f t m r c columns g z p = record {
   gives = combination-multiple f r c p.source g ∙ ap (multiple f c) p.gives;
 }
 
--- the two parts of the coefficients
-front : (f : Field) (m n : ℕ) (cs : List ℕ) → IsVector f (m + n) cs → IsVector f m (take m cs)
-front f m n cs h = IsVector-take f m n cs h
-
 -- a vector whose two parts are zero
 zero_from_parts : (t m : ℕ) (u : List ℕ) → take t u ≡ zeros t → drop t u ≡ zeros m → u ≡ zeros (t + m)
 zero_from_parts t m u p q = sym (take-append-drop t u) ∙ ap₂ (λ x y. x ++ y) p q ∙ zeros-append t m

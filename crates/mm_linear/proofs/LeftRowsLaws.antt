@@ -1,13 +1,14 @@
 -- The reduced echelon basis from the left: its span, its leads, and that a space has one.
 use Rattle.std.proofs.Common.{ℕ, zero, suc, ◌+◌, ◌-◌, ◌<◌, ◌≤◌, ◌≡◌, ◌≢◌, ◌↔◌, inl, inr, Bool, true, false, cond, ◌==◌, List, [], ◌∷◌, ◌++◌, length, map, reverse, get_or, take, drop, refl, sym, ap, ap₂, ◌∙◌, subst, arith, take-append-drop, eqb-true, Contains}
 use Rattle.std.proofs.lemmas.Bool.{cases_eq, eqb-false}
-use Rattle.std.proofs.lemmas.List.{length-map, length-reverse, reverse-append, reverse-reverse, take_at, get_or-reverse}
+use Rattle.std.proofs.lemmas.List.{length-map, length-reverse, reverse-append, reverse-reverse, take_at, get_or-reverse, get_or_default}
 use Rattle.std.proofs.lemmas.List.Elements.{All-nil, All-cons, All-append, All-map}
 use Rattle.mm_field.specs.declared.Field.{Field}
 use Rattle.mm_field.specs.Digits.{order, plus, times}
 use Rattle.mm_field.specs.Vectors.{zeros, vector_sum, multiple, combination, AreDigits, IsVector, AreVectors, InSpan, IsWithin, SameRowSpace}
 use Rattle.mm_field.proofs.CombinationLaws.{vector_sum-append, multiple-append, IsVector-combination, InSpan-zeros, InSpan-first, InSpan-one_more, IsWithin-itself, IsWithin-within}
 use Rattle.mm_field.proofs.PartLaws.{AreVectors-map, zeros-append}
+use Rattle.mm_field.proofs.VectorLaws.{length-multiple}
 use Rattle.mm_linear.specs.Echelons.{entry, IsEchelon}
 use Rattle.mm_linear.specs.Decide.{echelon_of}
 use Rattle.mm_linear.specs.LeftRows.{Leads, Clear, turned_rows, reduced_basis, IsLeftBasis}
@@ -74,11 +75,7 @@ combination-turned f n (c ∷ cs) (v ∷ vs) h =
     let hs : AreVectors f n vs = λ k d l. h (suc k) d (omega arith) in
     let hv : IsVector f n v = h 0 [] (omega arith) in
     ap₂ (λ x y. vector_sum f x y) (sym (reverse-multiple f c v)) (combination-turned f n cs vs hs)
-    ∙ sym (reverse-vector_sum f (multiple f c v) (combination f n cs vs) (length_multiple f c v ∙ hv.len ∙ sym (IsVector-combination f n cs vs hs).len))
-  where
-    length_multiple : (f : Field) (c : ℕ) (v : List ℕ) → length (multiple f c v) ≡ length v
-    length_multiple f c [] = refl
-    length_multiple f c (x ∷ v) = ap suc (length_multiple f c v)
+    ∙ sym (reverse-vector_sum f (multiple f c v) (combination f n cs vs) (length-multiple f c v ∙ hv.len ∙ sym (IsVector-combination f n cs vs hs).len))
 
 pub InSpan-turned : (f : Field) (n : ℕ) (rows : List (List ℕ)) (v : List ℕ) → AreVectors f n rows → InSpan f n rows v →
     InSpan f n (map reverse rows) (reverse v)
@@ -243,7 +240,7 @@ reduced_basis_is f n rows h =
     subst (λ rs. IsWithin f n (map reverse E) rs) (turned_twice rows) (IsWithin-turned f n E (map reverse rows) ht r.span.1) in
     let all : IsWithin f n (map reverse E) B =
     All-map (λ v. InSpan f n B v) reverse E
-    (λ k d l. subst (λ v. InSpan f n B (reverse v)) (get_or-any E k d l) (row_in_turned f n E r.echelon n (omega arith) k (omega arith))) in
+    (λ k d l. subst (λ v. InSpan f n B (reverse v)) (get_or_default E k [] d l) (row_in_turned f n E r.echelon n (omega arith) k (omega arith))) in
     let none : n - n ≡ 0 = omega arith in
     record {
       each = hB;
@@ -255,11 +252,6 @@ reduced_basis_is f n rows h =
       echelon = subst (λ a. Leads n a B (turned_leads n E n)) none (turned_have_leads f n E r.echelon n (omega arith));
       reduced = turned_clear f n E r.echelon n (omega arith);
     }
-  where
-    get_or-any : (xs : List (List ℕ)) (k : ℕ) (d : List ℕ) → k < length xs → get_or xs k [] ≡ get_or xs k d
-    get_or-any [] k d l = absurd (omega arith)
-    get_or-any (x ∷ xs) zero d l = refl
-    get_or-any (x ∷ xs) (suc k) d l = get_or-any xs k d (omega arith)
 
 -- spaces with the same vectors have the same basis
 pub reduced_basis-same : (f : Field) (n : ℕ) (rows sows : List (List ℕ)) → AreVectors f n rows → AreVectors f n sows →

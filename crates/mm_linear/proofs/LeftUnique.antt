@@ -1,48 +1,19 @@
 -- A row space has one list of reduced echelon rows from the left.
-use Rattle.std.proofs.Common.{ℕ, zero, suc, ◌<◌, ◌≤◌, ◌≡◌, inl, inr, List, [], ◌∷◌, ◌++◌, length, get_or, take, refl, sym, ap, ap₂, ◌∙◌, subst, arith, Contains}
+use Rattle.std.proofs.Common.{ℕ, zero, suc, ◌<◌, ◌≤◌, ◌≡◌, inl, inr, List, [], ◌∷◌, length, get_or, take, refl, sym, ap, ap₂, ◌∙◌, subst, arith, Contains}
 use Rattle.std.proofs.lemmas.Bool.{cases_eq, cases_lt}
-use Rattle.std.proofs.lemmas.List.{get_or-take, get_or-replicate}
+use Rattle.std.proofs.lemmas.List.{get_or-replicate}
+use Rattle.std.proofs.lemmas.List.Elements.{All-nil}
 use Rattle.mm_field.specs.declared.Field.{Field}
 use Rattle.mm_field.specs.Digits.{plus, times, negative}
-use Rattle.mm_field.specs.Vectors.{zeros, vector_sum, multiple, IsVector, AreVectors, InSpan, IsWithin, SameRowSpace}
-use Rattle.mm_field.proofs.Tables.{times_one_digit, times-zero, one_digit, plus-negative, plus_zero_digit, zero_digit, negative_below}
-use Rattle.mm_field.proofs.VectorLaws.{vector_sum-zeros, zeros-vector_sum, multiple-zeros, zero-multiple, one-multiple, IsVector-multiple, get_or-vector_sum, get_or-multiple}
-use Rattle.mm_field.proofs.CombinationLaws.{first_row, other_rows, take-vector_sum, take-multiple, multiple-append, IsVector-combination, combination-none, InSpan-vector_sum, InSpan-multiple, IsWithin-itself}
+use Rattle.mm_field.specs.Vectors.{zeros, vector_sum, multiple, AreVectors, InSpan, IsWithin, SameRowSpace, IsVector}
+use Rattle.mm_field.proofs.Tables.{times-zero}
+use Rattle.mm_field.proofs.VectorLaws.{zeros-vector_sum, one-multiple, sum_entry}
+use Rattle.mm_field.proofs.CombinationLaws.{first_row, other_rows, combination-none, InSpan-vector_sum, InSpan-multiple, IsWithin-itself}
 use Rattle.mm_linear.specs.LeftRows.{Leads, Clear, reduced_basis}
-use Rattle.mm_linear.proofs.SubspaceLaws.{split_first}
-use Rattle.mm_linear.proofs.BasisLaws.{ended, IsVector-ended, combination_late, less_and_more}
-use Rattle.mm_linear.proofs.PivotLaws.{cut-ended, last-ended, not_zeros, take-shorter, late_rows, lead_of_combination}
+use Rattle.mm_linear.proofs.BasisLaws.{ended, less_and_more}
+use Rattle.mm_linear.proofs.PivotLaws.{cut-ended, last-ended, not_zeros, take-shorter, late_rows, lead_of_combination, entry_of_cut, tail_when_zero}
 use Rattle.mm_linear.proofs.LeftRowsLaws.{reduced_basis_is}
-
-pub entry_of_cut : (x : ℕ) (w u : List ℕ) → take (suc x) w ≡ u → get_or w x 0 ≡ get_or u x 0
-entry_of_cut x w u e = sym (get_or-take (suc x) w x 0 (omega arith)) ∙ ap (λ y. get_or y x 0) e
-
--- a vector of the span that has 0 at the first lead is in the span of the other rows
-pub tail_when_zero : (f : Field) (n from x : ℕ) (v : List ℕ) (vs : List (List ℕ)) (ks : List ℕ) → Leads n from (v ∷ vs) (x ∷ ks) →
-    AreVectors f n (v ∷ vs) → (w : List ℕ) → InSpan f n (v ∷ vs) w → get_or w x 0 ≡ 0 → InSpan f n vs w
-tail_when_zero f n from x v vs ks h hr w p z =
-    let hv = first_row f n v vs hr in
-    let hs = other_rows f n v vs hr in
-    let s = split_first f n v vs w p in
-    let lx : x < n = h.1 in
-    let hu : IsVector f n s.rest = subst (λ u. IsVector f n u) s.in_rest.sum (IsVector-combination f n s.in_rest.coefficients vs hs) in
-    let low : take (suc x) s.rest ≡ zeros (suc x) =
-    ap (take (suc x)) (sym s.in_rest.sum) ∙ combination_late f n (suc x) s.in_rest.coefficients vs (omega arith) (late_rows n (suc x) vs ks h.3) in
-    let cut : take (suc x) w ≡ multiple f s.factor (ended x 1) =
-    ap (take (suc x)) (sym s.sum) ∙ take-vector_sum f (suc x) (multiple f s.factor v) s.rest
-    ∙ ap₂ (λ a b. vector_sum f a b) (take-multiple f s.factor (suc x) v ∙ ap (multiple f s.factor) h.2) low
-    ∙ vector_sum-zeros f (suc x) (multiple f s.factor (ended x 1)) (IsVector-multiple f (suc x) s.factor (ended x 1) (IsVector-ended f x 1 (one_digit f)).len) in
-    let zero_factor : s.factor ≡ 0 =
-    sym (times_one_digit f s.factor s.digit)
-    ∙ sym (entry_of_cut x w (multiple f s.factor (ended x 1)) cut
-    ∙ ap (λ u. get_or u x 0) (multiple-append f s.factor (zeros x) (1 ∷ []) ∙ ap (λ y. y ++ (times f s.factor 1 ∷ [])) (multiple-zeros f s.factor x))
-    ∙ last-ended x (times f s.factor 1))
-    ∙ z in
-    subst (λ y. InSpan f n vs y)
-    (sym (zeros-vector_sum f n s.rest hu)
-    ∙ ap (λ y. vector_sum f y s.rest) (sym (ap (λ a. multiple f a v) zero_factor ∙ zero-multiple f v ∙ ap zeros hv.len))
-    ∙ s.sum)
-    s.in_rest
+use Rattle.mm_linear.proofs.InsertLaws.{cleared_at, sum_of_zeros}
 
 pub zero_at_leads : (f : Field) (n from : ℕ) (rows : List (List ℕ)) (ks : List ℕ) → Leads n from rows ks → AreVectors f n rows →
     (w : List ℕ) → InSpan f n rows w → ((i d : ℕ) → i < length ks → get_or w (get_or ks i d) 0 ≡ 0) → w ≡ zeros n
@@ -131,17 +102,14 @@ left_unique f n a b (v ∷ vs) (w ∷ us) (x ∷ ks) (y ∷ ls) h c g d hr hs sa
     ) in
     let leads : ks ≡ ls = leads_same n (suc x) (suc x) us ks ls (subst (λ rs. Leads n (suc x) rs ks) tails h.3) g'.3 in
     let minus = multiple f (negative f 1) w in
-    let hm = IsVector-multiple f n (negative f 1) w hw.len in
     let z = vector_sum f v minus in
-    let entry_z = λ (k : ℕ) (l : k < n). get_or-vector_sum f v minus k (hv.len ∙ sym hm.len) (omega (arith, hm.len))
-    ∙ ap (λ t. plus f (get_or v k 0) t) (get_or-multiple f (negative f 1) w k (omega (arith, hw.len))) in
+    let entry_z = λ (k : ℕ) (l : k < n). sum_entry f n (negative f 1) v w k hv.len hw.len l in
     let z_all = InSpan-vector_sum f n (w ∷ us) v minus (same.0 0 [] (omega arith))
     (InSpan-multiple f n (negative f 1) (w ∷ us) w (IsWithin-itself f n (w ∷ us) hs 0 [] (omega arith))) in
     let at_x : get_or z x 0 ≡ 0 =
     entry_z x h.1
-    ∙ ap₂ (λ s t. plus f s (times f (negative f 1) t)) (entry_of_cut x v (ended x 1) h.2 ∙ last-ended x 1) (entry_of_cut x w (ended x 1) g'.2 ∙ last-ended x 1)
-    ∙ ap (λ t. plus f 1 t) (times_one_digit f (negative f 1) (negative_below f 1))
-    ∙ plus-negative f 1 in
+    ∙ ap (λ s. plus f s (times f (negative f 1) (get_or w x 0))) (entry_of_cut x v (ended x 1) h.2 ∙ last-ended x 1)
+    ∙ cleared_at f 1 (get_or w x 0) (entry_of_cut x w (ended x 1) g'.2 ∙ last-ended x 1) in
     let z_tail = tail_when_zero f n b x w us ls g' hs z z_all at_x in
     let z_zero = zero_at_leads f n (suc x) us ls g'.3 hus z z_tail
     (λ i e l.
@@ -149,9 +117,7 @@ left_unique f n a b (v ∷ vs) (w ∷ us) (x ∷ ks) (y ∷ ls) h c g d hr hs sa
     let v_zero : get_or v k 0 ≡ 0 = (subst (λ js. (i e : ℕ) → i < length js → get_or v (get_or js i e) 0 ≡ 0) leads c.0) i e l in
     let w_zero : get_or w k 0 ≡ 0 = d.0 i e l in
     entry_z k (leads_above n (suc x) us ls g'.3 i e l).1
-    ∙ ap₂ (λ s t. plus f s (times f (negative f 1) t)) v_zero w_zero
-    ∙ ap (λ t. plus f 0 t) (times-zero f (negative f 1))
-    ∙ plus_zero_digit f 0 (zero_digit f)) in
+    ∙ sum_of_zeros f (get_or v k 0) _ v_zero (ap (times f (negative f 1)) w_zero ∙ times-zero f (negative f 1))) in
     let heads : v ≡ w =
     sym (less_and_more f n 1 v w hv hw.len)
     ∙ ap₂ (λ s t. vector_sum f s t) z_zero (one-multiple f w hw.digits)
@@ -164,3 +130,6 @@ pub basis_of_reduced : (f : Field) (n : ℕ) (rows : List (List ℕ)) (ks : List
 basis_of_reduced f n rows ks h leads clear =
     let b = reduced_basis_is f n rows h in
     left_unique f n 0 0 (reduced_basis f n rows) rows b.leads ks b.echelon b.reduced leads clear b.each h (b.span.1, b.span.0)
+
+pub basis_of_none : (f : Field) (n : ℕ) → reduced_basis f n [] ≡ []
+basis_of_none f n = basis_of_reduced f n [] [] (All-nil (λ v. IsVector f n v)) tt tt

@@ -1,7 +1,7 @@
 -- The test of a meet decides it.
 use Rattle.std.proofs.Common.{ℕ, ◌≡◌, ◌↔◌, inl, inr, Bool, true, false, not, ◌&&◌, ◌||◌, Option, Some, None, List, [], ◌∷◌, ◌++◌, get_or, refl, sym, ap, ◌∙◌}
 use Rattle.std.specs.Prelude.{IsTrue, is_none}
-use Rattle.std.proofs.lemmas.Bool.{and_parts, and_from, or_cases}
+use Rattle.std.proofs.lemmas.Bool.{and_parts, and_from, or_cases, both_ways, not-true}
 use Rattle.std.proofs.lemmas.List.Elements.{All-append, All-cons}
 use Rattle.mm_field.specs.declared.Field.{Field}
 use Rattle.mm_field.specs.Vectors.{IsVector, AreVectors, InSpan, IsWithin}
@@ -50,10 +50,6 @@ both_within f n A S ha hs = (
   (λ k d l. append_left_in f n S A (get_or S k d) hs ha (IsWithin-itself f n S hs k d l)),
 )
 
-not_true : (b : Bool) → not b ≡ true → b ≡ true → ⊥
-not_true true p q = false_true _ p
-not_true false p q = false_true _ q
-
 one_step : (f : Field) (n : ℕ) (A S : List (List ℕ)) (b : List ℕ) → AreVectors f n A → AreVectors f n S → IsVector f n b →
     (x y : Bool) → (IsTrue x ↔ InSpan f n S b) → (IsTrue y ↔ InSpan f n (S ++ A) b) →
     (m : Bool) → (IsTrue m ↔ Meet f n A S) → IsTrue (m && (x || not y)) ↔ Meet f n A (b ∷ S)
@@ -65,7 +61,7 @@ one_step f n A S b ha hs hb x y dx dy m dm = (
         | inr t2 ↦
             let w = both_within f n A S ha hs in
             meet_more f n A S (S ++ A) b ha hs (All-append (λ u. IsVector f n u) S A hs ha) hb w.0 w.1
-            (λ q. not_true y t2 (dy.1 q)) (dm.0 parts.0)
+            (λ q. both_ways y (not-true y t2) (dy.1 q)) (dm.0 parts.0)
       ]),
   (λ meet. and_from m (x || not y) (dm.1 (meet_less f n A S b hb hs meet)) (or_step x y dx dy meet)),
 )

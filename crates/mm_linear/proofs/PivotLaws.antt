@@ -1,18 +1,18 @@
 -- The pivot columns are those at which rows in echelon form from the left have their first digits other than 0.
 use Rattle.std.proofs.Common.{ℕ, zero, suc, ◌+◌, ◌-◌, ◌<◌, ◌≤◌, ◌≡◌, ◌↔◌, inl, inr, true, List, [], ◌∷◌, ◌++◌, length, map, get_or, take, refl, sym, ap, ap₂, ◌∙◌, subst, arith, append_assoc, Contains}
 use Rattle.std.proofs.lemmas.Bool.{cases_eq, cases_lt}
-use Rattle.std.proofs.lemmas.List.{length-replicate, length-map, take_at, take-replicate, get_or-replicate, get_or_push}
+use Rattle.std.proofs.lemmas.List.{length-replicate, length-map, take_at, take-replicate, get_or-replicate, get_or_push, get_or-take}
 use Rattle.mm_field.specs.declared.Field.{Field}
 use Rattle.mm_field.specs.Digits.{times}
 use Rattle.mm_field.specs.Vectors.{zeros, vector_sum, multiple, combination, IsVector, AreVectors, InSpan, SameRowSpace}
 use Rattle.mm_field.proofs.Tables.{times_one_digit, one_digit}
-use Rattle.mm_field.proofs.VectorLaws.{vector_sum-zeros, zeros-vector_sum, multiple-zeros, zero-multiple, IsVector-multiple}
-use Rattle.mm_field.proofs.CombinationLaws.{first_row, other_rows, take-vector_sum, take-multiple, multiple-append, IsVector-combination, combination-none, InSpan-within}
+use Rattle.mm_field.proofs.VectorLaws.{vector_sum-zeros, multiple-zeros, zero-multiple, IsVector-multiple}
+use Rattle.mm_field.proofs.CombinationLaws.{first_row, other_rows, take-vector_sum, take-multiple, multiple-append, combination-none, InSpan-within}
 use Rattle.mm_field.proofs.PartLaws.{zeros-append}
 use Rattle.mm_linear.specs.Coordinates.{is_pivot}
 use Rattle.mm_linear.specs.LeftRows.{Leads}
 use Rattle.mm_linear.proofs.EchelonLaws.{zero_not_one}
-use Rattle.mm_linear.proofs.SubspaceLaws.{split_first}
+use Rattle.mm_linear.proofs.SubspaceLaws.{split_first, rest_is_all}
 use Rattle.mm_linear.proofs.MeetTest.{is_in_span_decides}
 use Rattle.mm_linear.proofs.BasisLaws.{ended, IsVector-ended, AreVectors-cut, combination_cut, combination_late, pivot_from_span}
 
@@ -39,6 +39,12 @@ take-shorter (suc m) zero u l = absurd (omega arith)
 take-shorter (suc m) (suc k) [] l = refl
 take-shorter (suc m) (suc k) (x ∷ u) l = ap (λ y. x ∷ y) (take-shorter m k u (omega arith))
 
+pub count_leads : (n from : ℕ) (rows : List (List ℕ)) (ks : List ℕ) → Leads n from rows ks → length rows ≡ length ks
+count_leads n from [] [] h = refl
+count_leads n from [] (x ∷ ks) h = absurd h
+count_leads n from (v ∷ vs) [] h = absurd h
+count_leads n from (v ∷ vs) (x ∷ ks) h = ap suc (count_leads n (suc x) vs ks h.3)
+
 -- rows whose leads come later are zero up to there
 pub late_rows : (n from : ℕ) (rows : List (List ℕ)) (ks : List ℕ) → Leads n from rows ks →
     (k : ℕ) (d : List ℕ) → k < length rows → take from (get_or rows k d) ≡ zeros from
@@ -52,6 +58,37 @@ late_rows n from (v ∷ vs) (x ∷ ks) h (suc k) d l =
     sym (take-shorter from (suc x) (get_or vs k d) (let a : from ≤ x = h.0 in omega arith))
     ∙ ap (take from) later ∙ take-replicate from (suc x) 0 (let a : from ≤ x = h.0 in omega arith)
 
+pub entry_of_cut : (x : ℕ) (w u : List ℕ) → take (suc x) w ≡ u → get_or w x 0 ≡ get_or u x 0
+entry_of_cut x w u e = sym (get_or-take (suc x) w x 0 (omega arith)) ∙ ap (λ y. get_or y x 0) e
+
+-- a vector of the span, cut behind the first lead, is its multiple of the first row there
+cut_at_lead : (f : Field) (n from x : ℕ) (v : List ℕ) (vs : List (List ℕ)) (ks : List ℕ) → Leads n from (v ∷ vs) (x ∷ ks) →
+    AreVectors f n (v ∷ vs) → (w : List ℕ) (p : InSpan f n (v ∷ vs) w) →
+    take (suc x) w ≡ multiple f (split_first f n v vs w p).factor (ended x 1)
+cut_at_lead f n from x v vs ks h hr w p =
+    let s = split_first f n v vs w p in
+    let lx : x < n = h.1 in
+    let low : take (suc x) s.rest ≡ zeros (suc x) =
+    ap (take (suc x)) (sym s.in_rest.sum) ∙ combination_late f n (suc x) s.in_rest.coefficients vs (omega arith) (late_rows n (suc x) vs ks h.3) in
+    ap (take (suc x)) (sym s.sum) ∙ take-vector_sum f (suc x) (multiple f s.factor v) s.rest
+    ∙ ap₂ (λ a b. vector_sum f a b) (take-multiple f s.factor (suc x) v ∙ ap (multiple f s.factor) h.2) low
+    ∙ vector_sum-zeros f (suc x) (multiple f s.factor (ended x 1)) (IsVector-multiple f (suc x) s.factor (ended x 1) (IsVector-ended f x 1 (one_digit f)).len)
+
+-- a vector of the span that has 0 at the first lead is in the span of the other rows
+pub tail_when_zero : (f : Field) (n from x : ℕ) (v : List ℕ) (vs : List (List ℕ)) (ks : List ℕ) → Leads n from (v ∷ vs) (x ∷ ks) →
+    AreVectors f n (v ∷ vs) → (w : List ℕ) → InSpan f n (v ∷ vs) w → get_or w x 0 ≡ 0 → InSpan f n vs w
+tail_when_zero f n from x v vs ks h hr w p z =
+    let hv = first_row f n v vs hr in
+    let hs = other_rows f n v vs hr in
+    let s = split_first f n v vs w p in
+    let zero_factor : s.factor ≡ 0 =
+    sym (times_one_digit f s.factor s.digit)
+    ∙ sym (entry_of_cut x w (multiple f s.factor (ended x 1)) (cut_at_lead f n from x v vs ks h hr w p)
+    ∙ ap (λ u. get_or u x 0) (multiple-append f s.factor (zeros x) (1 ∷ []) ∙ ap (λ y. y ++ (times f s.factor 1 ∷ [])) (multiple-zeros f s.factor x))
+    ∙ last-ended x (times f s.factor 1))
+    ∙ z in
+    subst (λ y. InSpan f n vs y) (rest_is_all f n v vs w hs s (ap (λ a. multiple f a v) zero_factor ∙ zero-multiple f v ∙ ap zeros hv.len)) s.in_rest
+
 -- a combination has its first digit other than 0 at one of the leads
 pub lead_of_combination : (f : Field) (n from : ℕ) (rows : List (List ℕ)) (ks : List ℕ) → Leads n from rows ks → AreVectors f n rows →
     (w : List ℕ) (k : ℕ) → k < n → InSpan f n rows w → take (suc k) w ≡ ended k 1 → Contains ks k
@@ -60,37 +97,19 @@ lead_of_combination f n from [] [] h hr w k l p e =
 lead_of_combination f n from [] (x ∷ ks) h hr w k l p e = absurd h
 lead_of_combination f n from (v ∷ vs) [] h hr w k l p e = absurd h
 lead_of_combination f n from (v ∷ vs) (x ∷ ks) h hr w k l p e =
-    let hv = first_row f n v vs hr in
-    let hs = other_rows f n v vs hr in
-    let s = split_first f n v vs w p in
-    let lx : x < n = h.1 in
-    let hu : IsVector f n s.rest = subst (λ u. IsVector f n u) s.in_rest.sum (IsVector-combination f n s.in_rest.coefficients vs hs) in
-    let low : take (suc x) s.rest ≡ zeros (suc x) =
-    ap (take (suc x)) (sym s.in_rest.sum) ∙ combination_late f n (suc x) s.in_rest.coefficients vs (omega arith) (late_rows n (suc x) vs ks h.3) in
-    let cut : take (suc x) w ≡ multiple f s.factor (ended x 1) =
-    ap (take (suc x)) (sym s.sum) ∙ take-vector_sum f (suc x) (multiple f s.factor v) s.rest
-    ∙ ap₂ (λ a b. vector_sum f a b) (take-multiple f s.factor (suc x) v ∙ ap (multiple f s.factor) h.2) low
-    ∙ vector_sum-zeros f (suc x) (multiple f s.factor (ended x 1)) (IsVector-multiple f (suc x) s.factor (ended x 1) (IsVector-ended f x 1 (one_digit f)).len) in
     elim (cases_eq k x) [
       | inl q ↦ (0, omega arith, sym q)
       | inr ne ↦ elim (cases_lt k x) [
-        | inl lt ↦ absurd (not_zeros k w
-            (sym (take-shorter (suc k) (suc x) w (omega arith)) ∙ ap (take (suc k)) cut
-            ∙ take-multiple f s.factor (suc k) (ended x 1) ∙ ap (multiple f s.factor) (cut-ended x (suc k) (omega arith)) ∙ multiple-zeros f s.factor (suc k)) e)
+        | inl lt ↦
+            let factor = (split_first f n v vs w p).factor in
+            absurd (not_zeros k w
+            (sym (take-shorter (suc k) (suc x) w (omega arith)) ∙ ap (take (suc k)) (cut_at_lead f n from x v vs ks h hr w p)
+            ∙ take-multiple f factor (suc k) (ended x 1) ∙ ap (multiple f factor) (cut-ended x (suc k) (omega arith)) ∙ multiple-zeros f factor (suc k)) e)
         | inr ge ↦
             let none : take (suc x) w ≡ zeros (suc x) =
             sym (take-shorter (suc x) (suc k) w (omega arith)) ∙ ap (take (suc x)) e ∙ cut-ended k (suc x) (omega arith) in
-            let zero_factor : s.factor ≡ 0 =
-            sym (times_one_digit f s.factor s.digit)
-            ∙ sym (ap (λ u. get_or u x 0) (multiple-append f s.factor (zeros x) (1 ∷ []) ∙ ap (λ y. y ++ (times f s.factor 1 ∷ [])) (multiple-zeros f s.factor x))
-            ∙ last-ended x (times f s.factor 1))
-            ∙ ap (λ u. get_or u x 0) (sym cut ∙ none)
-            ∙ get_or-replicate (suc x) x 0 0 (omega arith) in
-            let same : s.rest ≡ w =
-            sym (zeros-vector_sum f n s.rest hu)
-            ∙ ap (λ y. vector_sum f y s.rest) (sym (ap (λ a. multiple f a v) zero_factor ∙ zero-multiple f v ∙ ap zeros hv.len))
-            ∙ s.sum in
-            let c = lead_of_combination f n (suc x) vs ks h.3 hs w k l (subst (λ y. InSpan f n vs y) same s.in_rest) e in
+            let zero_here = entry_of_cut x w (zeros (suc x)) none ∙ get_or-replicate (suc x) x 0 0 (omega arith) in
+            let c = lead_of_combination f n (suc x) vs ks h.3 (other_rows f n v vs hr) w k l (tail_when_zero f n from x v vs ks h hr w p zero_here) e in
             (suc c.0, (let a : c.0 < length ks = c.1 in omega arith), c.2)
       ]
     ]

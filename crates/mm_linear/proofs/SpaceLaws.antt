@@ -6,16 +6,16 @@ use Rattle.std.proofs.lemmas.List.{length-replicate, get_or-replicate, get_or-ap
 use Rattle.std.proofs.lemmas.List.Elements.{All-append, All-replicate, All-cons}
 use Rattle.mm_field.specs.declared.Field.{Field}
 use Rattle.mm_field.specs.Digits.{order, times, negative, inverse}
-use Rattle.mm_field.specs.Vectors.{zeros, multiple, combination, AreDigits, IsVector, InSpan, SameRowSpace}
+use Rattle.mm_field.specs.Vectors.{zeros, AreDigits, IsVector, InSpan, SameRowSpace}
 use Rattle.mm_field.proofs.Tables.{times-zero}
-use Rattle.mm_field.proofs.VectorLaws.{get_or-vector_sum, get_or-multiple, length-multiple, IsVector-zeros}
-use Rattle.mm_field.proofs.CombinationLaws.{IsVector-combination, IsWithin-itself, InSpan-one_more}
+use Rattle.mm_field.proofs.VectorLaws.{get_or-multiple, IsVector-zeros}
+use Rattle.mm_field.proofs.CombinationLaws.{IsWithin-itself, InSpan-one_more}
 use Rattle.mm_linear.specs.Echelons.{entry, IsEchelon, ZeroFrom}
 use Rattle.mm_linear.specs.Padded.{padded}
 use Rattle.mm_linear.specs.Decide.{row_for}
 use Rattle.mm_linear.specs.Eliminate.{residue, inserted}
 use Rattle.mm_linear.proofs.EchelonLaws.{combination_entry_zero}
-use Rattle.mm_linear.proofs.InsertLaws.{no_residue, in_span_with_no_residue, IsVector-residue, IsNewRow, inserted_new, inserted_entry, sum_of_zeros}
+use Rattle.mm_linear.proofs.InsertLaws.{no_residue, in_span_with_no_residue, IsVector-residue, IsNewRow, inserted_new, inserted_entry, sum_of_zeros, residue_entry}
 
 pub IsVector-padded : (f : Field) (n : ℕ) (v : List ℕ) → length v ≤ n → AreDigits f v → IsVector f n (padded n v)
 IsVector-padded f n v l d = record {
@@ -64,17 +64,13 @@ contains_decides f n rows v rest (Some p) false h hv e found none i = (
       ∙ get_or-replicate n p 0 0 found.0))),
 )
 
-residue_past : (f : Field) (n r : ℕ) (v : List ℕ) (rows : List (List ℕ)) → IsEchelon f n rows → IsVector f n v → ZeroFrom n r rows →
+-- the residue has a zero where v and the rows have
+pub residue_past : (f : Field) (n r : ℕ) (v : List ℕ) (rows : List (List ℕ)) → IsEchelon f n rows → IsVector f n v → ZeroFrom n r rows →
     (j : ℕ) → r ≤ j → j < n → get_or v j 0 ≡ 0 → get_or (residue f n v rows) j 0 ≡ 0
 residue_past f n r v rows h hv z j lj l e =
-    let hc = IsVector-combination f n v rows h.each in
-    let lv : length v ≡ n = hv.len in
-    let lc : length (combination f n v rows) ≡ n = hc.len in
-    let lm = length-multiple f (negative f 1) (combination f n v rows) in
-    get_or-vector_sum f v (multiple f (negative f 1) (combination f n v rows)) j (lv ∙ sym lc ∙ sym lm) (omega arith)
+    residue_entry f n v rows h.each hv j l
     ∙ sum_of_zeros f (get_or v j 0) _ e
-    (get_or-multiple f (negative f 1) (combination f n v rows) j (omega arith)
-    ∙ ap (times f (negative f 1))
+    (ap (times f (negative f 1))
     (combination_entry_zero f n v rows j h.each l
     (λ i li. ap (times f (get_or v i 0)) (z i j (let c : length rows ≡ n = h.count in omega arith) lj l)
     ∙ times-zero f (get_or v i 0)))

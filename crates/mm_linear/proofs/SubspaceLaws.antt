@@ -171,6 +171,12 @@ from_sum f n u w z hu hw e =
 pub IsVector-in_span : (f : Field) (n : ℕ) (rows : List (List ℕ)) (v : List ℕ) → AreVectors f n rows → InSpan f n rows v → IsVector f n v
 IsVector-in_span f n rows v h p = subst (λ x. IsVector f n x) p.sum (IsVector-combination f n p.coefficients rows h)
 
+-- where the part along b is zero, the rest is all
+pub rest_is_all : (f : Field) (n : ℕ) (b : List ℕ) (S : List (List ℕ)) (z : List ℕ) → AreVectors f n S → (s : Split f n b S z) →
+    multiple f s.factor b ≡ zeros n → s.rest ≡ z
+rest_is_all f n b S z hs s e =
+    sym (zeros-vector_sum f n s.rest (IsVector-in_span f n S s.rest hs s.in_rest)) ∙ ap (λ x. vector_sum f x s.rest) (sym e) ∙ s.sum
+
 -- Where b is outside the span of A and S, b and S meet A in zero alone if S does.
 pub meet_more : (f : Field) (n : ℕ) (A S E : List (List ℕ)) (b : List ℕ) → AreVectors f n A → AreVectors f n S → AreVectors f n E →
     IsVector f n b → IsWithin f n A E → IsWithin f n S E → (InSpan f n E b → ⊥) → Meet f n A S → Meet f n A (b ∷ S)
@@ -179,10 +185,7 @@ meet_more f n A S E b ha hs he hb wa ws out meet z p q =
     let hrest = IsVector-in_span f n S s.rest hs s.in_rest in
     elim (cases_eq s.factor 0) [
       | inl e ↦
-          let z_is : s.rest ≡ z =
-          sym (zeros-vector_sum f n s.rest hrest)
-          ∙ ap (λ x. vector_sum f x s.rest) (sym (ap (λ c. multiple f c b) e ∙ zero-multiple f b ∙ ap zeros hb.len))
-          ∙ s.sum in
+          let z_is = rest_is_all f n b S z hs s (ap (λ c. multiple f c b) e ∙ zero-multiple f b ∙ ap zeros hb.len) in
           meet z p (subst (λ x. InSpan f n S x) z_is s.in_rest)
       | inr ne ↦
           let cb = from_sum f n (multiple f s.factor b) s.rest z (IsVector-multiple f n s.factor b hb.len) hrest s.sum in

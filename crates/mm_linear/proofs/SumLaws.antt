@@ -3,21 +3,21 @@ use Rattle.std.proofs.Common.{ℕ, ◌+◌, ◌-◌, ◌<◌, ◌≤◌, ◌≡�
 use Rattle.std.proofs.lemmas.List.{drop_more, drop_all, get_or-replicate}
 use Rattle.std.proofs.lemmas.List.Elements.{All-head, All-tail, All-cons, All-append, All-drop, All-weaker}
 use Rattle.mm_field.specs.declared.Field.{Field}
-use Rattle.mm_field.specs.Vectors.{zeros, vector_sum, multiple, combination, IsVector, AreVectors, InSpan, IsWithin, SameRowSpace}
-use Rattle.mm_field.proofs.VectorLaws.{vector_sum_comm, zeros-vector_sum, multiple-zeros, IsVector-zeros}
+use Rattle.mm_field.specs.Vectors.{zeros, multiple, combination, IsVector, AreVectors, InSpan, IsWithin, SameRowSpace}
+use Rattle.mm_field.proofs.VectorLaws.{vector_sum_comm, multiple-zeros, IsVector-zeros}
 use Rattle.mm_field.proofs.CombinationLaws.{IsWithin-itself, IsWithin-within, InSpan-within, InSpan-zeros, InSpan-first, InSpan-one_more}
 use Rattle.mm_linear.proofs.TypeLaws.{InSum-from_append, append_left_in, append_right_in}
 use Rattle.mm_linear.specs.Echelons.{entry, IsEchelon}
 use Rattle.mm_linear.specs.Meets.{Meet}
 use Rattle.mm_linear.proofs.EchelonLaws.{zero_not_one}
-use Rattle.mm_linear.proofs.SubspaceLaws.{split_first, IsVector-in_span, meet_more, meet_fails, outside_later}
+use Rattle.mm_linear.proofs.SubspaceLaws.{split_first, meet_more, meet_fails, outside_later, rest_is_all}
 
 pub next_rows : (B : List (List ℕ)) (i : ℕ) → 0 < i → i ≤ length B → drop (i - 1) B ≡ get_or B (i - 1) [] ∷ drop i B
 next_rows B i p l =
     drop_more B (i - 1) [] (omega arith)
     ∙ let e : i - 1 + 1 ≡ i = omega arith in ap (λ k. get_or B (i - 1) [] ∷ drop k B) e
 
-more_within : (f : Field) (n : ℕ) (b : List ℕ) (X : List (List ℕ)) → IsVector f n b → AreVectors f n X → IsWithin f n X (b ∷ X)
+pub more_within : (f : Field) (n : ℕ) (b : List ℕ) (X : List (List ℕ)) → IsVector f n b → AreVectors f n X → IsWithin f n X (b ∷ X)
 more_within f n b X hb h =
     All-weaker (λ u. InSpan f n X u) (λ u. InSpan f n (b ∷ X) u) (λ u q. InSpan-one_more f n b X u hb h q) X (IsWithin-itself f n X h)
 
@@ -48,11 +48,7 @@ pub meet_zero : (f : Field) (n : ℕ) (A S : List (List ℕ)) (b : List ℕ) →
     Meet f n A S → Meet f n A (b ∷ S)
 meet_zero f n A S b hs e meet z p q =
     let s = split_first f n b S z q in
-    let hrest = IsVector-in_span f n S s.rest hs s.in_rest in
-    let z_is : s.rest ≡ z =
-    sym (zeros-vector_sum f n s.rest hrest)
-    ∙ ap (λ x. vector_sum f x s.rest) (sym (ap (multiple f s.factor) e ∙ multiple-zeros f s.factor n))
-    ∙ s.sum in
+    let z_is = rest_is_all f n b S z hs s (ap (multiple f s.factor) e ∙ multiple-zeros f s.factor n) in
     meet z p (subst (λ x. InSpan f n S x) z_is s.in_rest)
 
 pub meet_none : (f : Field) (n : ℕ) (A : List (List ℕ)) → Meet f n A []

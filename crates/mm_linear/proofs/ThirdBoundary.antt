@@ -3,6 +3,7 @@ use Rattle.std.proofs.Common.{ℕ, ◌+◌, ◌≡◌, ◌↔◌, Bool, true, fa
 use Rattle.std.specs.Prelude.{IsTrue}
 use Rattle.std.proofs.lemmas.List.{length-replicate, take_at, drop_at}
 use Rattle.std.proofs.lemmas.List.Elements.{All-append}
+use Rattle.std.proofs.lemmas.Bool.{false_from_ne_true, false≢true}
 use Rattle.mm_field.specs.declared.Field.{Field}
 use Rattle.mm_field.specs.Vectors.{zeros, vector_sum, combination, IsVector, AreVectors, InSpan, AreIndependent, through}
 use Rattle.mm_linear.specs.Joins.{InSum, InImage1, InImage2, MeetOnlyInZero, Sides, AreSides, joined, width, Represents}
@@ -10,7 +11,7 @@ use Rattle.mm_field.proofs.VectorLaws.{vector_sum-zeros, IsVector-zeros}
 use Rattle.mm_field.proofs.CombinationLaws.{IsVector-combination, combination-append, combination-zeros}
 use Rattle.mm_field.proofs.PartLaws.{AreVectors-map, IsVector-append}
 use Rattle.mm_linear.proofs.JoinLaws.{AreVectors-joined, joined_independent, left_independent, right_independent, images_meet_in_zero, boundary_in_sum, sum_in_boundary}
-use Rattle.mm_linear.proofs.TypeLaws.{InSum-from_append, append_from_InSum, InImage-represented, represented-InImage, images1, images2, AreVectors-images, join_is_independent, boundary_target}
+use Rattle.mm_linear.proofs.TypeLaws.{images1, images2, AreVectors-images, join_is_independent, boundary_target, InSum-from_append, append_from_InSum, InImage-represented, represented-InImage}
 use Rattle.mm_linear.specs.Decide.{is_independent, is_in_span, meets_in_zero}
 use Rattle.mm_linear.specs.Coordinates.{unit, free_columns, completed, in_coordinates}
 use Rattle.mm_linear.specs.Subspaces.{boundary_space, preimage}
@@ -95,12 +96,11 @@ stands_for f t3 c m1 m2 r g us b er lg hg hu lb =
     ∙ vector_sum-zeros f r (through f r g b) (IsVector-combination f r b g hg))
     (drop_at (b ++ zeros c) (zeros m1 ++ zeros m2) r lz)
 
--- its boundary space is all b such that b times the third boundary is in the sum of the images
-pub third_boundary : (j : Sides) → AreSides j → (t3 c : ℕ) (g3 : List (List ℕ)) → IsThird j t3 c g3 → (k1 k2 : List (List ℕ)) →
-    Represents j.f j.t1 j.m1 j.columns1 k1 → Represents j.f j.t2 j.m2 j.columns2 k2 → (b : List ℕ) → IsVector j.f t3 b →
+-- b followed by zeros is in the span of the columns in those coordinates where b times the third boundary is in that of the columns
+third_span : (j : Sides) → AreSides j → (t3 c : ℕ) (g3 : List (List ℕ)) → IsThird j t3 c g3 → (b : List ℕ) → IsVector j.f t3 b →
     InSpan j.f (width j) (join_columns j g3) (b ++ zeros (c + (j.m1 + j.m2)))
-    ↔ InSpan j.f j.r (images1 j k1 ++ images2 j k2) (through j.f j.r g3 b)
-third_boundary j h t3 c g3 third k1 k2 rep1 rep2 b hb =
+    ↔ InSpan j.f (width j) (joined j) (through j.f j.r g3 b ++ (zeros j.m1 ++ zeros j.m2))
+third_span j h t3 c g3 third b hb =
     let f = j.f in
     let er : j.r ≡ t3 + c = third.size in
     let w : t3 + (c + (j.m1 + j.m2)) ≡ j.r + (j.m1 + j.m2) = omega arith in
@@ -110,10 +110,21 @@ third_boundary j h t3 c g3 third k1 k2 rep1 rep2 b hb =
     let moved = span_in_coordinates f j.r (j.m1 + j.m2) (completed f j.r g3) (joined j) basis (AreVectors-joined j h)
     (b ++ zeros (c + (j.m1 + j.m2))) hz in
     let stands = stands_for f t3 c j.m1 j.m2 j.r g3 (map (unit j.r) (free_columns f j.r g3)) b er third.count third.rows
-    (AreVectors-free f j.r g3) hb.len in
-    let images = sum_by_images j h k1 k2 rep1 rep2 (through f j.r g3 b) (IsVector-combination f j.r b g3 third.rows).len in (
-      (λ p. images.0 (subst (λ v. InSpan f (width j) (joined j) v) stands (moved.0 p))),
-      (λ p. moved.1 (subst (λ v. InSpan f (width j) (joined j) v) (sym stands) (images.1 p))),
+    (AreVectors-free f j.r g3) hb.len in (
+      (λ p. subst (λ v. InSpan f (width j) (joined j) v) stands (moved.0 p)),
+      (λ p. moved.1 (subst (λ v. InSpan f (width j) (joined j) v) (sym stands) p)),
+    )
+
+-- its boundary space is all b such that b times the third boundary is in the sum of the images
+pub third_boundary : (j : Sides) → AreSides j → (t3 c : ℕ) (g3 : List (List ℕ)) → IsThird j t3 c g3 → (k1 k2 : List (List ℕ)) →
+    Represents j.f j.t1 j.m1 j.columns1 k1 → Represents j.f j.t2 j.m2 j.columns2 k2 → (b : List ℕ) → IsVector j.f t3 b →
+    InSpan j.f (width j) (join_columns j g3) (b ++ zeros (c + (j.m1 + j.m2)))
+    ↔ InSpan j.f j.r (images1 j k1 ++ images2 j k2) (through j.f j.r g3 b)
+third_boundary j h t3 c g3 third k1 k2 rep1 rep2 b hb =
+    let columns = third_span j h t3 c g3 third b hb in
+    let images = sum_by_images j h k1 k2 rep1 rep2 (through j.f j.r g3 b) (IsVector-combination j.f j.r b g3 third.rows).len in (
+      (λ p. images.0 (columns.0 p)),
+      (λ p. columns.1 (images.1 p)),
     )
 
 -- ---- the same by the images alone, without rows that span the boundary spaces
@@ -136,19 +147,10 @@ pub union_boundary : (j : Sides) → AreSides j → (t3 c : ℕ) (g3 : List (Lis
     InSpan j.f (width j) (join_columns j g3) (b ++ zeros (c + (j.m1 + j.m2)))
     ↔ InSum j.f (InImage1 j) (InImage2 j) (through j.f j.r g3 b)
 union_boundary j h t3 c g3 third b hb =
-    let f = j.f in
-    let er : j.r ≡ t3 + c = third.size in
-    let w : t3 + (c + (j.m1 + j.m2)) ≡ j.r + (j.m1 + j.m2) = omega arith in
-    let basis = completed_is_basis f j.r g3 third.rows third.independent in
-    let hz = subst (λ n. IsVector f n (b ++ zeros (c + (j.m1 + j.m2)))) w
-    (IsVector-append f t3 (c + (j.m1 + j.m2)) b (zeros (c + (j.m1 + j.m2))) hb (IsVector-zeros f (c + (j.m1 + j.m2)))) in
-    let moved = span_in_coordinates f j.r (j.m1 + j.m2) (completed f j.r g3) (joined j) basis (AreVectors-joined j h)
-    (b ++ zeros (c + (j.m1 + j.m2))) hz in
-    let stands = stands_for f t3 c j.m1 j.m2 j.r g3 (map (unit j.r) (free_columns f j.r g3)) b er third.count third.rows
-    (AreVectors-free f j.r g3) hb.len in
-    let lz = (IsVector-combination f j.r b g3 third.rows).len in (
-      (λ p. boundary_in_sum j h (through f j.r g3 b) lz (subst (λ v. InSpan f (width j) (joined j) v) stands (moved.0 p))),
-      (λ p. moved.1 (subst (λ v. InSpan f (width j) (joined j) v) (sym stands) (sum_in_boundary j h (through f j.r g3 b) p))),
+    let columns = third_span j h t3 c g3 third b hb in
+    let lz = (IsVector-combination j.f j.r b g3 third.rows).len in (
+      (λ p. boundary_in_sum j h (through j.f j.r g3 b) lz (columns.0 p)),
+      (λ p. columns.1 (sum_in_boundary j h (through j.f j.r g3 b) p)),
     )
 
 -- ---- the tests and the spaces at a join
@@ -163,30 +165,9 @@ own_images2 j = images2 j (boundary_space j.f j.t2 j.m2 j.columns2)
 three_tests : (P P1 P2 P3 : Type 0) (b b1 b2 b3 : Bool) → (IsTrue b ↔ P) → (IsTrue b1 ↔ P1) → (IsTrue b2 ↔ P2) → (IsTrue b3 ↔ P3) →
     (P ↔ (P1 × P2 × P3)) → b ≡ (b1 && (b2 && b3))
 three_tests P P1 P2 P3 b true true true h h1 h2 h3 e = h.1 (e.1 (h1.0 refl, h2.0 refl, h3.0 refl))
-three_tests P P1 P2 P3 b true true false h h1 h2 h3 e = not_so b (λ t. false_is (h3.1 (e.0 (h.0 t)).2))
-  where
-    false_is : false ≡ true → ⊥
-    false_is q = cc
-
-    not_so : (b : Bool) → (IsTrue b → ⊥) → b ≡ false
-    not_so true q = absurd (q refl)
-    not_so false q = refl
-three_tests P P1 P2 P3 b true false b3 h h1 h2 h3 e = not_so b (λ t. false_is (h2.1 (e.0 (h.0 t)).1))
-  where
-    false_is : false ≡ true → ⊥
-    false_is q = cc
-
-    not_so : (b : Bool) → (IsTrue b → ⊥) → b ≡ false
-    not_so true q = absurd (q refl)
-    not_so false q = refl
-three_tests P P1 P2 P3 b false b2 b3 h h1 h2 h3 e = not_so b (λ t. false_is (h1.1 (e.0 (h.0 t)).0))
-  where
-    false_is : false ≡ true → ⊥
-    false_is q = cc
-
-    not_so : (b : Bool) → (IsTrue b → ⊥) → b ≡ false
-    not_so true q = absurd (q refl)
-    not_so false q = refl
+three_tests P P1 P2 P3 b true true false h h1 h2 h3 e = false_from_ne_true b (λ t. false≢true (h3.1 (e.0 (h.0 t)).2))
+three_tests P P1 P2 P3 b true false b3 h h1 h2 h3 e = false_from_ne_true b (λ t. false≢true (h2.1 (e.0 (h.0 t)).1))
+three_tests P P1 P2 P3 b false b2 b3 h h1 h2 h3 e = false_from_ne_true b (λ t. false≢true (h1.1 (e.0 (h.0 t)).0))
 
 -- the test of independence at a join is that of both sides and of the meet
 pub join_test : (j : Sides) → AreSides j → (t3 c : ℕ) (g3 : List (List ℕ)) → IsThird j t3 c g3 →

@@ -1,13 +1,13 @@
 -- The join rule for independence, over rows that span the boundary spaces.
-use Rattle.std.proofs.Common.{ℕ, ◌+◌, ◌≡◌, ◌↔◌, List, ◌++◌, length, map, take, drop, refl, sym, ap, ap₂, ◌∙◌, subst, arith, length-append, take-append-drop, append_assoc}
-use Rattle.std.proofs.lemmas.List.{length-replicate, length-map}
+use Rattle.std.proofs.Common.{ℕ, ◌+◌, ◌≡◌, ◌↔◌, List, ◌++◌, length, map, take, drop, refl, sym, ap, ap₂, ◌∙◌, subst, length-append, take-append-drop, append_assoc}
+use Rattle.std.proofs.lemmas.List.{length-map}
 use Rattle.mm_field.specs.declared.Field.{Field}
 use Rattle.mm_field.specs.Vectors.{zeros, vector_sum, combination, IsVector, AreVectors, InSpan, AreIndependent, through}
-use Rattle.mm_linear.specs.Joins.{InBoundary, InImage, InSum, MeetOnlyInZero, Sides, AreSides, joined, width, Represents}
+use Rattle.mm_linear.specs.Joins.{InImage, InSum, MeetOnlyInZero, Sides, AreSides, joined, width, Represents}
 use Rattle.mm_field.proofs.VectorLaws.{vector_sum-zeros, zeros-vector_sum}
 use Rattle.mm_field.proofs.CombinationLaws.{IsVector-combination, combination-append, combination-through, InSpan-zeros}
 use Rattle.mm_field.proofs.PartLaws.{IsVector-take, IsVector-drop, IsVector-append, AreVectors-map, zeros-append}
-use Rattle.mm_linear.proofs.JoinLaws.{joined_independent, left_independent, right_independent, images_meet_in_zero, boundary_in_sum, sum_in_boundary}
+use Rattle.mm_linear.proofs.JoinLaws.{joined_independent, left_independent, right_independent, images_meet_in_zero}
 
 -- the span of rows and more rows is the sum of both spans
 pub InSum-from_append : (f : Field) (n : ℕ) (rows sows : List (List ℕ)) (z : List ℕ) → AreVectors f n sows →
@@ -120,47 +120,12 @@ join_is_independent j h k1 k2 rep1 rep2 ig1 ig2 = (
       (InImage-represented j.f j.t2 j.m2 j.r j.columns2 k2 j.g2 h.rows2 rep2 z q))),
 )
 
--- The boundary span of the union is all b such that b followed by c zeros is in W1 + W2.
+-- the zeros behind b: c of the boundary, and those of both sides
 pub boundary_target : (c m1 m2 : ℕ) (b : List ℕ) → (b ++ zeros c) ++ (zeros m1 ++ zeros m2) ≡ b ++ zeros (c + (m1 + m2))
 boundary_target c m1 m2 b =
     append_assoc b (zeros c) (zeros m1 ++ zeros m2)
     ∙ ap (λ x. b ++ (zeros c ++ x)) (zeros-append m1 m2)
     ∙ ap (λ x. b ++ x) (zeros-append c (m1 + m2))
-
-pub join_boundary : (j : Sides) → AreSides j → (t3 c : ℕ) → j.r ≡ t3 + c → (k1 k2 : List (List ℕ)) →
-    Represents j.f j.t1 j.m1 j.columns1 k1 → Represents j.f j.t2 j.m2 j.columns2 k2 →
-    (b : List ℕ) → length b ≡ t3 →
-    InBoundary j.f t3 (c + (j.m1 + j.m2)) (joined j) b ↔ InSpan j.f j.r (images1 j k1 ++ images2 j k2) (b ++ zeros c)
-join_boundary j h t3 c er k1 k2 rep1 rep2 b lb =
-    let hs = AreVectors-images j.f j.r k2 j.g2 j.t2 rep2.each h.rows2 in
-    let lz : length (b ++ zeros c) ≡ j.r =
-    length-append b (zeros c) ∙ ap₂ (λ x y. x + y) lb (length-replicate c 0) ∙ sym er in
-    let w : t3 + (c + (j.m1 + j.m2)) ≡ width j = omega arith in (
-      (λ p.
-          let p' = subst (λ v. InSpan j.f (width j) (joined j) v) (sym (boundary_target c j.m1 j.m2 b))
-          (subst (λ n. InSpan j.f n (joined j) (b ++ zeros (c + (j.m1 + j.m2)))) w p) in
-          let s = boundary_in_sum j h (b ++ zeros c) lz p' in
-          append_from_InSum j.f j.r (images1 j k1) (images2 j k2) (b ++ zeros c) hs
-          (record {
-            one = s.one;
-            other = s.other;
-            sum = s.sum;
-            in_first = InImage-represented j.f j.t1 j.m1 j.r j.columns1 k1 j.g1 h.rows1 rep1 s.one s.in_first;
-            in_second = InImage-represented j.f j.t2 j.m2 j.r j.columns2 k2 j.g2 h.rows2 rep2 s.other s.in_second;
-          })),
-      (λ p.
-          let s = InSum-from_append j.f j.r (images1 j k1) (images2 j k2) (b ++ zeros c) hs p in
-          let p' = sum_in_boundary j h (b ++ zeros c)
-          (record {
-            one = s.one;
-            other = s.other;
-            sum = s.sum;
-            in_first = represented-InImage j.f j.t1 j.m1 j.r j.columns1 k1 j.g1 h.rows1 rep1 s.one s.in_first;
-            in_second = represented-InImage j.f j.t2 j.m2 j.r j.columns2 k2 j.g2 h.rows2 rep2 s.other s.in_second;
-          }) in
-          subst (λ n. InSpan j.f n (joined j) (b ++ zeros (c + (j.m1 + j.m2)))) (sym w)
-          (subst (λ v. InSpan j.f (width j) (joined j) v) (boundary_target c j.m1 j.m2 b) p')),
-    )
 
 pub append_left_in : (f : Field) (n : ℕ) (rows sows : List (List ℕ)) (z : List ℕ) → AreVectors f n rows → AreVectors f n sows →
     InSpan f n rows z → InSpan f n (rows ++ sows) z

@@ -14,7 +14,7 @@ use Rattle.mm_lines.proofs.PlaceLaws.{some_piece, begins, closed_cons, closed_lo
 front_behind : {A : Type 0} (zs xs ys : List A) → IsFront xs ys → IsFront (zs ++ xs) (zs ++ ys)
 front_behind zs xs ys p = (p.0, append_assoc zs xs p.0 ∙ ap (λ l. zs ++ l) p.1)
 
-front_same : {A : Type 0} (xs ys : List A) → xs ≡ ys → IsFront xs ys
+pub front_same : {A : Type 0} (xs ys : List A) → xs ≡ ys → IsFront xs ys
 front_same xs ys p = ([], append-nil xs ∙ p)
 
 -- bytes in front of the first of some pieces

@@ -3,7 +3,7 @@ use Rattle.std.proofs.Common.{◌≡◌, ℕ, suc, ◌+◌, ◌-◌, ◌<◌, �
 use Rattle.std.specs.Prelude.{if◌then◌else◌, ◌||◌, ◌&&◌, nat_le}
 use Rattle.std.specs.List.{slice_split, onto_first}
 use Rattle.std.specs.Str.Lines.{strip_carriage_return}
-use Rattle.std.proofs.lemmas.Bool.{le-leb, leb-true, leb-false}
+use Rattle.std.proofs.lemmas.Bool.{le-leb, leb-true, leb-false, or_right}
 use Rattle.std.proofs.lemmas.List.{drop_more, drop-drop, drop_all, get_or-take, get_or-drop, get_or_append_left, take-append-drop, take-append-le, drop-append-le, length-take-le, length-drop, length-append, append-nil}
 use Rattle.std.proofs.lemmas.List.Elements.{All-from_get_or}
 use Rattle.std.proofs.lemmas.List.Splits.{slice_split_at, slice_split_none, slice_split-cons_no, length-slice_split}
@@ -82,12 +82,8 @@ pub closed_cons : (e : Bool) (p : List ℕ) (ps : List (List ℕ)) → 0 < lengt
 closed_cons e p [] h = absurd (omega (arith, h))
 closed_cons e p (q ∷ ps) h = refl
 
-or_true : (a b : Bool) → b ≡ true → (a || b) ≡ true
-or_true true b h = refl
-or_true false b h = h
-
 pub closed_long : (e : Bool) (p : List ℕ) (ps : List (List ℕ)) → is_too_long p ≡ true → closed e (p ∷ ps) ≡ p ∷ closed e ps
-closed_long e p [] h = ap (λ (c : Bool). if c then p ∷ [] else []) (or_true e (is_too_long p) h)
+closed_long e p [] h = ap (λ (c : Bool). if c then p ∷ [] else []) (or_right e (is_too_long p) h)
 closed_long e p (q ∷ ps) h = refl
 
 pub line_long : (n : ℕ) (p : List ℕ) → is_too_long p ≡ true → line_of n p ≡ record { number = n; text = TooLong } ∷ []
@@ -217,10 +213,6 @@ begun_one true n h = cc
 pub long_is_handed_out : {A : Type 0} (a b : Bool) → a ≡ true → (a || b) ≡ false → A
 long_is_handed_out true b h e = cc
 long_is_handed_out false b h e = cc
-
-pub not_both : {A : Type 0} (b : Bool) → b ≡ true → b ≡ false → A
-not_both true h e = cc
-not_both false h e = cc
 
 pub begun_last : (c : Bool) (n : ℕ) → c ≡ false → (if c then n + 1 + 1 else n + 1) ≡ (if c then n + 1 else n) + 1
 begun_last false n h = refl

@@ -1,12 +1,9 @@
 -- A search behind a place says where no newline stands.
-use Rattle.std.proofs.Common.{◌≡◌, ℕ, ◌+◌, ◌-◌, ◌<◌, ◌≤◌, Bool, true, false, List, get_or, drop, refl, ap, ◌∙◌, arith}
+use Rattle.std.proofs.Common.{◌≡◌, ℕ, ◌+◌, ◌-◌, ◌<◌, ◌≤◌, true, List, get_or, drop, ap, ◌∙◌, arith}
 use Rattle.std.proofs.lemmas.List.{get_or-drop}
+use Rattle.std.proofs.lemmas.Bool.{false_from_ne_true}
 use Rattle.mm_lines.specs.Lines.{is_newline}
 use Rattle.mm_lines.specs.Places.{NoNewline}
-
-not_true : (b : Bool) → (b ≡ true → ⊥) → b ≡ false
-not_true true h = absurd (h refl)
-not_true false h = refl
 
 behind_place : (bytes rest : List ℕ) (from k : ℕ) → rest ≡ drop from bytes → from ≤ k → get_or rest (k - from) 0 ≡ get_or bytes k 0
 behind_place bytes rest from k same low =
@@ -14,4 +11,4 @@ behind_place bytes rest from k same low =
 
 pub searched : (bytes rest : List ℕ) (from stop : ℕ) → rest ≡ drop from bytes → ((k : ℕ) → 0 ≤ k → k < stop → is_newline (get_or rest k 0) ≡ true → ⊥) → NoNewline bytes from (from + stop)
 searched bytes rest from stop same h k low high =
-    not_true (is_newline (get_or bytes k 0)) (λ e. h (k - from) (omega arith) (omega (arith, low, high)) (ap is_newline (behind_place bytes rest from k same low) ∙ e))
+    false_from_ne_true (is_newline (get_or bytes k 0)) (λ e. h (k - from) (omega arith) (omega (arith, low, high)) (ap is_newline (behind_place bytes rest from k same low) ∙ e))

@@ -24,7 +24,7 @@ has_some-true : (xs : List ℕ) → 0 < length xs → has_some xs ≡ true
 has_some-true [] h = absurd (omega arith)
 has_some-true (x ∷ xs) h = refl
 
-filtered : (w : List ℕ) (ws : List (List ℕ)) → 0 < length w → filter has_some (w ∷ ws) ≡ w ∷ filter has_some ws
+pub filtered : (w : List ℕ) (ws : List (List ℕ)) → 0 < length w → filter has_some (w ∷ ws) ≡ w ∷ filter has_some ws
 filtered w ws h = ap (λ (b : Bool). cond b (w ∷ filter has_some ws) (filter has_some ws)) (has_some-true w h)
 
 pub token_last : (line : List ℕ) → 0 < length line → position is_blank line ≡ None → tokens line ≡ line ∷ []

@@ -2,6 +2,7 @@
 use Rattle.std.proofs.Common.{◌≡◌, ◌+◌, ℕ, Bool, true, false, not, cond, List, [], ◌∷◌, filter, sum_by, refl, sym, ap, ◌∙◌, subst, arith}
 use Rattle.std.specs.Ordering.{is_eq}
 use Rattle.std.proofs.lemmas.List.Sums.{sum_by-append}
+use Rattle.std.proofs.Math.Nat.{zero-add}
 use Rattle.std.specs.declared.cmp.Ordering.{Ordering}
 use Rattle.std.specs.declared.cmp.Ordering.TheVariants.{Less, Equal, Greater}
 use Rattle.mm_logic.specs.Order.{SameMembers, by_order, insert, normal, Below, Rising}
@@ -54,10 +55,7 @@ sum_by-insert f x (w ∷ ws) h = by (sum_by-insert f x ws h.1) (value_cmp x w) r
     by ih Equal e =
         sum_by-cons f w ws
         ∙ (λ i. f (sym (value_exact x w e) i) + sym (other-below f x ws (subst (λ z. Below value_cmp z ws) (sym (value_exact x w e)) h.0)) i)
-        ∙ ap (λ n. f x + n) (sym (sum_by-cons (other x f) w ws ∙ ap (λ r. cond (not (is_eq r)) (f w) 0 + sum_by (other x f) ws) e ∙ zero_front (sum_by (other x f) ws)))
-      where
-        zero_front : (n : ℕ) → 0 + n ≡ n
-        zero_front n = omega arith
+        ∙ ap (λ n. f x + n) (sym (sum_by-cons (other x f) w ws ∙ ap (λ r. cond (not (is_eq r)) (f w) 0 + sum_by (other x f) ws) e ∙ zero-add (sum_by (other x f) ws)))
     by ih Greater e =
         sum_by-cons f w (insert value_cmp x ws)
         ∙ ap (λ n. f w + n) ih

@@ -1,10 +1,11 @@
 -- How the lists of an automaton grow, call by call.
-use Rattle.std.proofs.Common.{◌≡◌, ◌<◌, ◌+◌, ℕ, Bool, true, false, not, cond, ◌&&◌, ◌||◌, List, [], ◌∷◌, ◌++◌, map, length, filter, flat_map, sum_by, get_or, eqb, refl, sym, ap, ◌∙◌, subst, arith}
+use Rattle.std.proofs.Common.{◌≡◌, ◌<◌, ◌+◌, ℕ, Bool, true, false, not, cond, ◌||◌, List, [], ◌∷◌, ◌++◌, map, length, filter, flat_map, sum_by, get_or, eqb, refl, sym, ap, ◌∙◌, subst, arith}
 use Rattle.std.specs.List.{list_any, list_all}
 use Rattle.std.proofs.lemmas.List.{append_assoc, get_or_append_left, length-append}
 use Rattle.std.proofs.lemmas.List.Sums.{sum_by-append}
 use Rattle.std.proofs.lemmas.List.Folds.{list_any-append, sum_by-zero}
 use Rattle.std.proofs.lemmas.List.Elements.{filter-append, filter_agree}
+use Rattle.std.proofs.Math.Bool.{or-false, and_comm}
 use Rattle.mm_logic.specs.Formula.{Formula}
 use Rattle.mm_logic.specs.Formula.Formula.{Const, Ind, Member, SameElem, Sub, SameSet, Not, Bin, ExSet, AllSet, ExElem, AllElem}
 use Rattle.mm_logic.specs.Order.{SameMembers}
@@ -12,7 +13,7 @@ use Rattle.mm_logic.specs.Value.{Value, members, first, second, collected}
 use Rattle.mm_logic.specs.Value.Value.{Dead, Pair}
 use Rattle.mm_logic.specs.Occurrence.{same, is_among, distinct, fresh, elem_parts, own_cells, list_cells, occurring}
 use Rattle.mm_logic.specs.Growth.{missing, beside, head_list, root, type_at, AllSame, SameBag, Grown, AllGrown}
-use Rattle.mm_logic.proofs.SetLemmas.{or-false, list_all-any, list_any-map, list_any-flat_map, list_any-normal}
+use Rattle.mm_logic.proofs.SetLemmas.{list_all-any, list_any-map, list_any-flat_map, list_any-normal}
 use Rattle.mm_logic.proofs.ValueLemmas.{value_total, value_exact, list_any-collected}
 use Rattle.mm_logic.proofs.OccurrenceLemmas.{distinct-append, filter-filter, not_or, same_flip, occurrence-splits, swap_middle}
 use Rattle.mm_logic.proofs.BagLemmas.{bag-normal, fresh-same}
@@ -61,13 +62,7 @@ fresh-append K vs ws =
     ∙ filter-append (λ v. not (is_among K v)) (distinct vs) (fresh vs ws)
     ∙ ap (λ z. fresh K vs ++ z)
     (filter-filter (λ v. not (is_among K v)) (λ v. not (is_among vs v)) (distinct ws)
-    ∙ filter_agree _ _ (λ v. and_swap (not (is_among vs v)) (not (is_among K v)) ∙ not_or (is_among K v) (is_among vs v) ∙ ap not (sym (list_any-append (same v) K vs))) (distinct ws))
-  where
-    and_swap : (a b : Bool) → (a && b) ≡ (b && a)
-    and_swap true true = refl
-    and_swap true false = refl
-    and_swap false true = refl
-    and_swap false false = refl
+    ∙ filter_agree _ _ (λ v. and_comm (not (is_among vs v)) (not (is_among K v)) ∙ not_or (is_among K v) (is_among vs v) ∙ ap not (sym (list_any-append (same v) K vs))) (distinct ws))
 
 -- to grow twice is to grow once by both
 pub Grown-then : (old mid now vs ws : List Value) → Grown old mid vs → Grown mid now ws → Grown old now (vs ++ ws)

@@ -5,6 +5,7 @@ use Rattle.std.proofs.lemmas.List.Sums.{sum_by-append}
 use Rattle.std.proofs.lemmas.List.Elements.{filter-append, filter_agree}
 use Rattle.std.proofs.lemmas.Grind.{flat_map-append}
 use Rattle.std.proofs.lemmas.Cmp.{eq_by_cmp_equiv}
+use Rattle.std.proofs.Math.Bool.{and_comm}
 use Rattle.mm_logic.specs.Formula.{Formula}
 use Rattle.mm_logic.specs.Formula.Formula.{Const, Ind, Member, SameElem, Sub, SameSet, Not, Bin, ExSet, AllSet, ExElem, AllElem}
 use Rattle.mm_logic.specs.Value.{Value, members, first, second}
@@ -65,12 +66,6 @@ pub not_or : (a b : Bool) → (not a && not b) ≡ not (a || b)
 not_or true b = refl
 not_or false b = refl
 
-and_swap : (a b : Bool) → (a && b) ≡ (b && a)
-and_swap true true = refl
-and_swap true false = refl
-and_swap false true = refl
-and_swap false false = refl
-
 -- needs that `same` is symmetric
 pub distinct-append : ((v w : Value) → same v w ≡ same w v) → (K vs : List Value) → distinct (K ++ vs) ≡ distinct K ++ fresh K vs
 distinct-append flip [] vs = sym (all_kept (distinct vs))
@@ -84,7 +79,7 @@ distinct-append flip (x ∷ K) vs =
     ∙ filter-append (λ w. not (same x w)) (distinct K) (fresh K vs)
     ∙ ap (λ z. filter (λ w. not (same x w)) (distinct K) ++ z)
     (filter-filter (λ w. not (same x w)) (λ v. not (is_among K v)) (distinct vs)
-    ∙ filter_agree _ _ (λ v. and_swap (not (is_among K v)) (not (same x v)) ∙ ap (λ b. not b && not (is_among K v)) (flip x v) ∙ not_or (same v x) (is_among K v)) (distinct vs)))
+    ∙ filter_agree _ _ (λ v. and_comm (not (is_among K v)) (not (same x v)) ∙ ap (λ b. not b && not (is_among K v)) (flip x v) ∙ not_or (same v x) (is_among K v)) (distinct vs)))
 
 pub same_flip : (v w : Value) → same v w ≡ same w v
 same_flip = (eq_by_cmp_equiv value_total).symm

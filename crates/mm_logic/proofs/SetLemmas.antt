@@ -6,13 +6,10 @@ use Rattle.std.specs.Cmp.{IsTotalOrder}
 use Rattle.std.specs.FinMap.{IsAntisymmetric}
 use Rattle.std.proofs.lemmas.Cmp.{tied_itself}
 use Rattle.std.proofs.lemmas.List.Folds.{list_any-append}
+use Rattle.std.proofs.Math.Bool.{and-false}
 use Rattle.std.specs.declared.cmp.Ordering.{Ordering}
 use Rattle.std.specs.declared.cmp.Ordering.TheVariants.{Less, Equal, Greater}
 use Rattle.mm_logic.specs.Order.{SameMembers, by_order, insert, normal, Below, Rising}
-
-pub or-false : (b : Bool) → (b || false) ≡ b
-or-false true = refl
-or-false false = refl
 
 pub or_swap : (a b c : Bool) → (a || (b || c)) ≡ (b || (a || c))
 or_swap true true c = refl
@@ -115,14 +112,10 @@ module _ {A : Type 0} {R : A → A → Ordering} (o : IsTotalOrder R) (exact : I
       rest : R x y ≡ Equal → SameMembers xs ys
       rest e p =
           let q : A → Bool = λ z. p z && not (eq_by_cmp R x z) in
-          let at_x : q x ≡ false = ap (λ r. p x && not (is_eq r)) (tied_itself o x) ∙ and_false (p x) in
-          let at_y : q y ≡ false = ap (λ r. p y && not (is_eq r)) e ∙ and_false (p y) in
+          let at_x : q x ≡ false = ap (λ r. p x && not (is_eq r)) (tied_itself o x) ∙ and-false (p x) in
+          let at_y : q y ≡ false = ap (λ r. p y && not (is_eq r)) e ∙ and-false (p y) in
           let below : Below R x ys = subst (λ z. Below R z ys) (sym (exact x y e)) k.0 in
           sym (left_out p x xs h.0) ∙ sym (ap (λ b. b || list_any q xs) at_x) ∙ same q ∙ ap (λ b. b || list_any q ys) at_y ∙ left_out p x ys below
-        where
-          and_false : (b : Bool) → (b && false) ≡ false
-          and_false true = refl
-          and_false false = refl
 
       by : (SameMembers xs ys → xs ≡ ys) → (r : Ordering) → R x y ≡ r → (x ∷ xs) ≡ (y ∷ ys)
       by ih Less e = absurd (apart x y xs ys e k.0 same)

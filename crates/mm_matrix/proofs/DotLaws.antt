@@ -1,12 +1,12 @@
 -- Sums of products: they are linear on both sides.
-use Rattle.std.proofs.Common.{ℕ, zero, suc, ◌+◌, ◌-◌, ◌<◌, ◌≡◌, List, [], ◌∷◌, ◌++◌, length, map, get_or, refl, sym, ap, ap₂, ◌∙◌, subst, arith}
+use Rattle.std.proofs.Common.{ℕ, zero, suc, ◌+◌, ◌-◌, ◌<◌, ◌≡◌, List, [], ◌∷◌, ◌++◌, length, map, get_or, refl, sym, ap, ap₂, ◌∙◌, arith}
 use Rattle.std.proofs.lemmas.List.{length-map, get_or-map}
 use Rattle.std.proofs.lemmas.List.Elements.{All-head, All-tail}
 use Rattle.std.specs.List.{All}
 use Rattle.mm_field.specs.declared.Field.{Field}
-use Rattle.mm_field.specs.Digits.{order, plus, times, negative}
-use Rattle.mm_field.specs.Vectors.{zeros, vector_sum, multiple, combination, IsVector, AreVectors, InSpan, IsWithin}
-use Rattle.mm_field.proofs.Tables.{plus_assoc, plus_comm, times_assoc, times_comm, times-plus, times-zero, plus_zero_digit, times_one_digit, times_below, plus_below, zero_digit}
+use Rattle.mm_field.specs.Digits.{order, plus, times}
+use Rattle.mm_field.specs.Vectors.{zeros, vector_sum, multiple, combination, IsVector, AreVectors, IsWithin}
+use Rattle.mm_field.proofs.Tables.{plus_assoc, plus_comm, times_assoc, times_comm, times-plus, times-zero, plus_zero_digit, times_one_digit, plus_below, zero_digit}
 use Rattle.mm_field.proofs.VectorLaws.{length-multiple}
 use Rattle.mm_field.proofs.CombinationLaws.{first_row, other_rows, IsVector-combination}
 use Rattle.mm_linear.specs.Coordinates.{unit}
@@ -20,9 +20,6 @@ plus_middle f a b c d =
 
 pub plus_zeros : (f : Field) → plus f 0 0 ≡ 0
 plus_zeros f = plus_zero_digit f 0 (zero_digit f)
-
-pub zero-times : (f : Field) (a : ℕ) → times f 0 a ≡ 0
-zero-times f a = times_comm f 0 a ∙ times-zero f a
 
 pub dot-comm : (f : Field) (xs ys : List ℕ) → dot f xs ys ≡ dot f ys xs
 dot-comm f [] [] = refl

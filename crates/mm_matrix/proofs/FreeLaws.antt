@@ -1,23 +1,23 @@
 -- The projections of the unit vectors at the free columns are a basis of the vectors that are orthogonal to reduced rows.
 use Rattle.std.proofs.Common.{ℕ, zero, suc, ◌+◌, ◌-◌, ◌<◌, ◌≤◌, ◌≡◌, ◌≢◌, inl, inr, Bool, true, false, not, cond, List, [], ◌∷◌, ◌++◌, length, map, filter, get_or, refl, sym, ap, ap₂, ◌∙◌, subst, arith, ext_get_or, Contains, zero-add, ◌↔◌}
 use Rattle.std.specs.List.{range_with_len, All}
-use Rattle.std.proofs.lemmas.Bool.{cases_eq, cases_lt}
-use Rattle.std.proofs.lemmas.List.{length-map, get_or-map, length-replicate, get_or-replicate}
+use Rattle.std.proofs.lemmas.Bool.{cases_eq, both_ways}
+use Rattle.std.proofs.lemmas.List.{length-map, get_or-map, length-replicate, get_or-replicate, get_or_default}
 use Rattle.std.proofs.lemmas.List.FromFn.{get_or-range_with_len, length-range_with_len}
 use Rattle.std.proofs.lemmas.List.Elements.{All-head, All-tail, All-cons, All-nil, All-filter}
 use Rattle.mm_field.specs.declared.Field.{Field}
-use Rattle.mm_field.specs.Digits.{order, plus, times, negative}
+use Rattle.mm_field.specs.Digits.{plus, negative}
 use Rattle.mm_field.specs.Vectors.{zeros, vector_sum, multiple, combination, IsVector, AreVectors, InSpan, IsWithin, AreIndependent, SameRowSpace}
-use Rattle.mm_field.proofs.Tables.{times-zero, times_one_digit, negative-times, plus_zero_digit, zero_digit, one_digit}
-use Rattle.mm_field.proofs.VectorLaws.{opposite-vector_sum, vector_sum-zeros, zero-multiple, one-multiple, zeros-vector_sum, length-multiple, IsVector-vector_sum, IsVector-zeros, get_or-vector_sum}
+use Rattle.mm_field.proofs.Tables.{negative-times, plus_zero_digit}
+use Rattle.mm_field.proofs.VectorLaws.{opposite-vector_sum, vector_sum-zeros, zero-multiple, one-multiple, zeros-vector_sum, get_or-vector_sum}
 use Rattle.mm_field.proofs.CombinationLaws.{first_row, other_rows, combination-multiple, combination-zeros, IsVector-combination, InSpan-zeros, InSpan-within, IsWithin-itself}
-use Rattle.mm_field.proofs.PartLaws.{combination-map, AreVectors-map}
-use Rattle.mm_linear.specs.Coordinates.{unit, is_pivot, free_columns, completed, IsBasis}
+use Rattle.mm_field.proofs.PartLaws.{combination-map}
+use Rattle.mm_linear.specs.Coordinates.{unit, is_pivot, free_columns}
 use Rattle.mm_linear.proofs.SubspaceTests.{Contains-filter, Contains-map}
 use Rattle.mm_linear.proofs.EchelonLaws.{zero_not_one}
 use Rattle.mm_linear.proofs.IndependenceLaws.{independent_more}
 use Rattle.mm_linear.proofs.LeafLaws.{none_independent}
-use Rattle.mm_linear.proofs.PivotLaws.{pivots_are_leads}
+use Rattle.mm_linear.proofs.PivotLaws.{pivots_are_leads, count_leads}
 use Rattle.mm_linear.proofs.BasisLaws.{IsVector-unit, get_or-unit, get_or-unit_other, completed_is_basis, free_count}
 use Rattle.mm_linear.specs.LeftRows.{Leads, reduced_basis}
 use Rattle.mm_linear.proofs.LeftRowsLaws.{reduced_basis_is}
@@ -26,8 +26,6 @@ use Rattle.mm_matrix.specs.MatrixValue.{MatrixValue}
 use Rattle.mm_matrix.specs.Rests.{AreReduced}
 use Rattle.mm_matrix.specs.Orthogonal.{dot, IsOrthogonal, IsNullOf, IsOrthogonalBasis}
 use Rattle.mm_matrix.specs.Projections.{units, shares, projected, null_row, null_rows}
-use Rattle.mm_matrix.proofs.RestLaws.{count_leads}
-use Rattle.mm_matrix.proofs.RowLaws.{get_or_same}
 use Rattle.mm_matrix.proofs.DotLaws.{dot-comm, dot-unit, dot-combination, dot-zeros, all_zero, orthogonal_within}
 use Rattle.mm_matrix.proofs.DimensionLaws.{dimension}
 use Rattle.mm_matrix.proofs.NullLaws.{AreVectors-units, IsVector-projected, projected-vector_sum, projected-multiple, projected-zeros, projected_same, projected_orthogonal, at_leads, leads_inside}
@@ -138,7 +136,7 @@ projection_in_span f n k rows ks h l = go (is_pivot f rows k) refl
     go : (b : Bool) → is_pivot f rows k ≡ b → InSpan f n (null_rows f n rows ks) (null_row f n rows ks k)
     go true e =
         let c = (is_lead f n k rows ks h l).0 e in
-        let at : get_or ks c.0 0 ≡ k = get_or_same ks c.0 0 k c.1 ∙ c.2 in
+        let at : get_or ks c.0 0 ≡ k = get_or_default ks c.0 0 k c.1 ∙ c.2 in
         subst (λ (v : List ℕ). InSpan f n (null_rows f n rows ks) v)
         (sym (lead_vanishes f n c.0 rows ks h c.1) ∙ ap (null_row f n rows ks) at)
         (InSpan-zeros f n (null_rows f n rows ks) all)
@@ -230,11 +228,7 @@ entry_off_leads f n a j rows ks hk ne la lj =
 not_a_lead : (f : Field) (n a : ℕ) (rows : List (List ℕ)) (ks : List ℕ) → AreReduced f n rows ks → a < n → is_pivot f rows a ≡ false →
     All (λ k. k ≢ a) ks
 not_a_lead f n a rows ks h l e = λ i d m q.
-    false_true (is_pivot f rows a) e ((is_lead f n a rows ks h l).1 (i, m, get_or_same ks i a d m ∙ q))
-  where
-    false_true : (b : Bool) → b ≡ false → b ≡ true → ⊥
-    false_true true e t = cc
-    false_true false e t = cc
+    both_ways (is_pivot f rows a) e ((is_lead f n a rows ks h l).1 (i, m, get_or_default ks i a d m ∙ q))
 
 later_zero : (f : Field) (n a : ℕ) (rows : List (List ℕ)) (ks js : List ℕ) → All (λ k. k < n) ks → All (λ k. k ≢ a) ks → a < n →
     All (λ j. (a < j) × (j < n)) js → All (λ (v : List ℕ). get_or v a 0 ≡ 0) (map (null_row f n rows ks) js)

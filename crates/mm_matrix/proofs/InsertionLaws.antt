@@ -1,22 +1,21 @@
 -- A row that is put in at the place of its lead keeps reduced rows reduced, and the span grows by it.
-use Rattle.std.proofs.Common.{ℕ, zero, suc, ◌+◌, ◌<◌, ◌≤◌, ◌≡◌, ◌≢◌, List, [], ◌∷◌, ◌++◌, length, get_or, map, take, drop, refl, sym, ap, ap₂, ◌∙◌, subst, arith}
-use Rattle.std.proofs.lemmas.List.{get_or-replicate}
-use Rattle.std.proofs.lemmas.List.Elements.{All-cons, All-nil, All-append, All-take, All-drop, All-head, All-tail}
+use Rattle.std.proofs.Common.{ℕ, zero, suc, ◌+◌, ◌<◌, ◌≤◌, ◌≡◌, ◌≢◌, List, [], ◌∷◌, ◌++◌, length, get_or, map, take, drop, sym, ap, ap₂, ◌∙◌, subst, arith}
+use Rattle.std.proofs.lemmas.List.Elements.{All-cons, All-append, All-take, All-drop, All-head, All-tail}
 use Rattle.std.specs.List.{All}
 use Rattle.mm_field.specs.declared.Field.{Field}
-use Rattle.mm_field.specs.Digits.{order, plus, times, negative}
+use Rattle.mm_field.specs.Digits.{times, negative}
 use Rattle.mm_field.specs.Vectors.{zeros, vector_sum, multiple, IsVector, AreVectors, InSpan, IsWithin, SameRowSpace}
-use Rattle.mm_field.proofs.Tables.{times-zero, times_one_digit, plus-negative, plus_zero_digit, negative_below, zero_digit, one_digit}
-use Rattle.mm_field.proofs.VectorLaws.{vector_sum-zeros, multiple-zeros, length-multiple, IsVector-vector_sum, IsVector-multiple, get_or-vector_sum, get_or-multiple}
+use Rattle.mm_field.proofs.Tables.{times-zero, one_digit}
+use Rattle.mm_field.proofs.VectorLaws.{vector_sum-zeros, multiple-zeros}
 use Rattle.mm_field.proofs.CombinationLaws.{first_row, other_rows, take-vector_sum, take-multiple, InSpan-vector_sum, InSpan-multiple, InSpan-first, InSpan-one_more, InSpan-within, IsWithin-itself}
 use Rattle.mm_linear.specs.Eliminate.{cleared}
 use Rattle.mm_linear.specs.LeftRows.{Leads, Clear}
 use Rattle.mm_linear.proofs.BasisLaws.{ended, IsVector-ended, less_and_more}
-use Rattle.mm_linear.proofs.PivotLaws.{cut-ended, last-ended, take-shorter}
+use Rattle.mm_linear.proofs.PivotLaws.{cut-ended, last-ended, take-shorter, count_leads, entry_of_cut}
 use Rattle.mm_linear.proofs.EchelonLaws.{zero_not_one}
-use Rattle.mm_linear.proofs.LeftUnique.{entry_of_cut, leads_above}
+use Rattle.mm_linear.proofs.LeftUnique.{leads_above}
+use Rattle.mm_linear.proofs.InsertLaws.{IsVector-cleared, cleared_entry, sum_of_zeros, cleared_at as cleared_digit}
 use Rattle.mm_matrix.specs.Rests.{AreReduced, IsNew, IsPlaceOf}
-use Rattle.mm_matrix.proofs.RestLaws.{count_leads}
 
 -- ---- the new row
 
@@ -34,33 +33,16 @@ pub new_lead : (f : Field) (n p : ℕ) (w ks : List ℕ) → IsNew f n p w ks �
 new_lead f n p w ks new = λ i d l e.
     zero_not_one (get_or w p 0) (sym (ap (λ (x : ℕ). get_or w x 0) e) ∙ new.zero i d l) (one_of_new f n p w ks new)
 
-pub IsVector-cleared : (f : Field) (n p : ℕ) (w v : List ℕ) → IsVector f n w → IsVector f n v → IsVector f n (cleared f p w v)
-IsVector-cleared f n p w v hw hv =
-    IsVector-vector_sum f n v (multiple f (negative f (get_or v p 0)) w) hv.len (length-multiple f (negative f (get_or v p 0)) w ∙ hw.len)
-
-entry-cleared : (f : Field) (n p j : ℕ) (w v : List ℕ) → IsVector f n w → IsVector f n v → j < n →
-    get_or (cleared f p w v) j 0 ≡ plus f (get_or v j 0) (times f (negative f (get_or v p 0)) (get_or w j 0))
-entry-cleared f n p j w v hw hv l =
-    let c = negative f (get_or v p 0) in
-    let lm = length-multiple f c w in
-    let lv = hv.len in
-    let lw = hw.len in
-    get_or-vector_sum f v (multiple f c w) j (lv ∙ sym lw ∙ sym lm) (omega arith)
-    ∙ ap (λ x. plus f (get_or v j 0) x) (get_or-multiple f c w j (omega arith))
-
 cleared_at : (f : Field) (n p : ℕ) (w v : List ℕ) → IsVector f n w → IsVector f n v → p < n → get_or w p 0 ≡ 1 →
     get_or (cleared f p w v) p 0 ≡ 0
 cleared_at f n p w v hw hv l e =
-    let a = get_or v p 0 in
-    entry-cleared f n p p w v hw hv l ∙ ap (λ x. plus f a (times f (negative f a) x)) e
-    ∙ ap (λ x. plus f a x) (times_one_digit f (negative f a) (negative_below f a)) ∙ plus-negative f a
+    cleared_entry f n p w v hw hv p l ∙ cleared_digit f (get_or v p 0) (get_or w p 0) e
 
 cleared_kept : (f : Field) (n p j : ℕ) (w v : List ℕ) → IsVector f n w → IsVector f n v → j < n → get_or w j 0 ≡ 0 → get_or v j 0 ≡ 0 →
     get_or (cleared f p w v) j 0 ≡ 0
 cleared_kept f n p j w v hw hv l zw zv =
     let c = negative f (get_or v p 0) in
-    entry-cleared f n p j w v hw hv l ∙ ap₂ (λ x y. plus f x (times f c y)) zv zw
-    ∙ ap (λ x. plus f 0 x) (times-zero f c) ∙ plus_zero_digit f 0 (zero_digit f)
+    cleared_entry f n p w v hw hv j l ∙ sum_of_zeros f (get_or v j 0) _ zv (ap (times f c) zw ∙ times-zero f c)
 
 -- ---- places
 

@@ -1,25 +1,26 @@
 -- Projecting along reduced rows onto the vectors that are orthogonal to them.
-use Rattle.std.proofs.Common.{ℕ, zero, suc, ◌+◌, ◌-◌, ◌<◌, ◌≤◌, ◌≡◌, ◌≢◌, inl, inr, List, [], ◌∷◌, ◌++◌, length, map, get_or, drop, refl, sym, ap, ap₂, ◌∙◌, subst, arith, ext_get_or}
+use Rattle.std.proofs.Common.{ℕ, zero, suc, ◌-◌, ◌<◌, ◌≡◌, inl, inr, List, [], ◌∷◌, length, map, get_or, refl, sym, ap, ap₂, ◌∙◌, subst, arith, ext_get_or}
 use Rattle.std.proofs.lemmas.Bool.{cases_eq, cases_lt}
-use Rattle.std.proofs.lemmas.List.{length-map, get_or-map, length-replicate}
+use Rattle.std.proofs.lemmas.List.{length-map, get_or-map, get_or_default}
 use Rattle.std.proofs.lemmas.List.Elements.{All-head, All-tail, All-cons, All-nil}
 use Rattle.std.specs.List.{All}
 use Rattle.mm_field.specs.declared.Field.{Field}
 use Rattle.mm_field.specs.Digits.{order, plus, times, negative}
-use Rattle.mm_field.specs.Vectors.{zeros, vector_sum, multiple, combination, IsVector, AreVectors, InSpan, IsWithin, SameRowSpace}
-use Rattle.mm_field.proofs.Tables.{plus_assoc, plus_comm, times_assoc, times_comm, times-plus, times-zero, times_one_digit, plus-negative, negative-times, negative_below, plus_zero_digit, zero_digit, one_digit}
-use Rattle.mm_field.proofs.VectorLaws.{vector_sum_middle, vector_sum-zeros, zeros-vector_sum, opposite-vector_sum, multiple-zeros, one-multiple, zero-multiple, multiple-vector_sum, length-multiple, length-vector_sum, IsVector-vector_sum, IsVector-multiple, IsVector-zeros}
-use Rattle.mm_field.proofs.CombinationLaws.{first_row, other_rows, combination-vector_sum, combination-multiple, combination-zeros, IsVector-combination}
-use Rattle.mm_field.proofs.PartLaws.{combination-map, AreVectors-map}
+use Rattle.mm_field.specs.Vectors.{zeros, vector_sum, multiple, combination, IsVector, AreVectors}
+use Rattle.mm_field.proofs.Tables.{times_assoc, times_comm, times-plus, plus-negative, negative-times, negative_below}
+use Rattle.mm_field.proofs.VectorLaws.{vector_sum_middle, vector_sum-zeros, multiple-vector_sum, IsVector-vector_sum, IsVector-zeros}
+use Rattle.mm_field.proofs.CombinationLaws.{combination-vector_sum, combination-multiple, combination-zeros, IsVector-combination}
 use Rattle.mm_linear.specs.Coordinates.{unit}
-use Rattle.mm_linear.specs.LeftRows.{Leads, Clear}
+use Rattle.mm_linear.specs.LeftRows.{Clear}
 use Rattle.mm_linear.proofs.BasisLaws.{IsVector-unit, get_or-unit, get_or-unit_other}
 use Rattle.mm_linear.proofs.LeftUnique.{leads_above}
+use Rattle.mm_linear.proofs.PivotLaws.{count_leads}
+use Rattle.mm_linear.proofs.EchelonLaws.{negative-zero}
 use Rattle.mm_matrix.specs.Rests.{AreReduced}
 use Rattle.mm_matrix.specs.Orthogonal.{dot, IsOrthogonal}
 use Rattle.mm_matrix.specs.Projections.{units, shares, projected}
-use Rattle.mm_matrix.proofs.RestLaws.{count_leads, one_at_lead, zero_at_earlier}
-use Rattle.mm_matrix.proofs.DotLaws.{dot-comm, dot-vector_sum, dot-multiple, dot-zeros, dot-unit, dot-combination}
+use Rattle.mm_matrix.proofs.RestLaws.{one_at_lead, zero_at_earlier}
+use Rattle.mm_matrix.proofs.DotLaws.{dot-vector_sum, dot-multiple, dot-zeros, dot-unit, dot-combination}
 
 -- ---- linear
 
@@ -32,9 +33,6 @@ times-negative : (f : Field) (c a : ℕ) → negative f (times f c a) ≡ times 
 times-negative f c a =
     negative-times f (times f c a) ∙ sym (times_assoc f (negative f 1) c a) ∙ ap (λ x. times f x a) (times_comm f (negative f 1) c)
     ∙ times_assoc f c (negative f 1) a ∙ ap (times f c) (sym (negative-times f a))
-
-negative-zero : (f : Field) → negative f 0 ≡ 0
-negative-zero f = negative-times f 0 ∙ times-zero f (negative f 1)
 
 shares-vector_sum : (f : Field) (rows : List (List ℕ)) (x y : List ℕ) → length x ≡ length y →
     shares f rows (vector_sum f x y) ≡ vector_sum f (shares f rows x) (shares f rows y)
@@ -155,14 +153,9 @@ projected_orthogonal f n rows ks x h hx = λ m d l.
     let i : m < length ks = omega arith in
     let hcs : IsVector f (length ks) cs = subst (λ k. IsVector f k cs) c (shares_digits f rows x) in
     let a = dot f v x in
-    ap (λ (u : List ℕ). dot f u (projected f n rows ks x)) (same_row rows m d [] l)
+    ap (λ (u : List ℕ). dot f u (projected f n rows ks x)) (get_or_default rows m d [] l)
     ∙ dot-vector_sum f v x (combination f n cs (units n ks)) (hx.len ∙ sym (IsVector-combination f n cs (units n ks) hu).len)
     ∙ ap (plus f a)
     (dot-combination f n v cs (units n ks) hu ∙ ap (dot f cs) (map_twice n v ks f hv hk ∙ at_leads f n m rows ks h i)
     ∙ dot-unit f (length ks) m cs hcs i ∙ get_or-map (λ u. negative f (dot f u x)) rows m [] 0 l)
     ∙ plus-negative f a
-  where
-    same_row : (rows : List (List ℕ)) (m : ℕ) (d e : List ℕ) → m < length rows → get_or rows m d ≡ get_or rows m e
-    same_row [] m d e l = absurd (omega arith)
-    same_row (v ∷ vs) zero d e l = refl
-    same_row (v ∷ vs) (suc m) d e l = same_row vs m d e (omega arith)

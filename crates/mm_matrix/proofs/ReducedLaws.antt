@@ -1,5 +1,5 @@
 -- Reduced rows after one more vector: they are the reduced echelon basis of the larger span.
-use Rattle.std.proofs.Common.{ℕ, zero, suc, ◌+◌, ◌<◌, ◌≤◌, ◌≡◌, ◌≢◌, inl, inr, List, [], ◌∷◌, ◌++◌, length, get_or, map, take, drop, refl, sym, ap, ap₂, ◌∙◌, subst, arith}
+use Rattle.std.proofs.Common.{ℕ, zero, suc, ◌+◌, ◌<◌, ◌≡◌, ◌≢◌, inl, inr, List, [], ◌∷◌, ◌++◌, length, get_or, take, refl, sym, ap, ◌∙◌, subst, arith}
 use Rattle.std.proofs.Math.Nat.{eq-or-lt_of_le}
 use Rattle.std.proofs.Common.{ext_get_or, Vec, Global, ◌↔◌, Bool, true, false, not, Option, Some, None, rules}
 use Rattle.std.specs.Bool.{IsTrue}
@@ -8,21 +8,20 @@ use Rattle.mm_matrix.specs.declared.elimination.NewRow.{NewRow}
 use Rattle.std.specs.Vec.{with_items}
 use Rattle.std.proofs.lemmas.List.{get_or-replicate, get_or-take, length-take-le, length-replicate, take_more, get_or_append_left, get_or_push, length-append, with_items_is}
 use Rattle.std.proofs.lemmas.List.Elements.{All-cons, All-nil, All-append}
-use Rattle.std.specs.List.{All}
 use Rattle.mm_field.specs.declared.Field.{Field}
-use Rattle.mm_field.specs.Digits.{order, times, inverse}
-use Rattle.mm_field.specs.Vectors.{zeros, vector_sum, multiple, IsVector, AreVectors, InSpan, IsWithin, SameRowSpace}
+use Rattle.mm_field.specs.Digits.{times, inverse}
+use Rattle.mm_field.specs.Vectors.{zeros, multiple, IsVector, AreVectors, InSpan, IsWithin, SameRowSpace}
 use Rattle.mm_field.proofs.Tables.{times-zero, times_comm, times-inverse}
 use Rattle.mm_field.proofs.VectorLaws.{length-multiple, one-multiple, multiple-times, IsVector-multiple, get_or-multiple}
-use Rattle.mm_field.proofs.CombinationLaws.{InSpan-multiple, InSpan-first, InSpan-one_more, InSpan-zeros, InSpan-within, IsWithin-itself, IsWithin-within}
-use Rattle.mm_linear.specs.LeftRows.{Leads, Clear, reduced_basis, IsLeftBasis}
+use Rattle.mm_field.proofs.CombinationLaws.{InSpan-multiple, InSpan-first, InSpan-zeros, InSpan-within, IsWithin-itself, IsWithin-within}
+use Rattle.mm_linear.specs.LeftRows.{Leads, reduced_basis}
 use Rattle.mm_linear.proofs.BasisLaws.{ended, length-ended}
 use Rattle.mm_linear.proofs.PivotLaws.{last-ended}
 use Rattle.mm_linear.proofs.EchelonLaws.{zero_not_one}
 use Rattle.mm_linear.proofs.LeftRowsLaws.{reduced_basis_is, reduced_basis-same}
 use Rattle.mm_linear.proofs.LeftUnique.{basis_of_reduced, leads_above, zero_at_leads}
+use Rattle.mm_linear.proofs.SumLaws.{more_within}
 use Rattle.mm_matrix.specs.Rests.{AreReduced, IsRest, IsNew, AddsAs}
-use Rattle.mm_matrix.proofs.RestLaws.{tail_within}
 use Rattle.mm_matrix.proofs.InsertionLaws.{one_of_new}
 
 -- ---- the rest, divided by its first digit other than 0
@@ -79,8 +78,8 @@ new_of_rest f n p rows ks v u leads rest at = record {
 rest_span : (f : Field) (n : ℕ) (rows : List (List ℕ)) (ks v u : List ℕ) → AreVectors f n rows → IsVector f n v → IsRest f n rows ks v u →
     SameRowSpace f n (v ∷ rows) (u ∷ rows)
 rest_span f n rows ks v u h hv rest = (
-  All-cons (λ x. InSpan f n (u ∷ rows) x) v rows rest.back (tail_within f n u rows rest.vector h),
-  All-cons (λ x. InSpan f n (v ∷ rows) x) u rows rest.there (tail_within f n v rows hv h),
+  All-cons (λ x. InSpan f n (u ∷ rows) x) v rows rest.back (more_within f n u rows rest.vector h),
+  All-cons (λ x. InSpan f n (v ∷ rows) x) u rows rest.there (more_within f n v rows hv h),
 )
 
 scaled_span : (f : Field) (n p : ℕ) (rows : List (List ℕ)) (u : List ℕ) → AreVectors f n rows → IsVector f n u → IsFirstAt n p u →
@@ -96,10 +95,10 @@ scaled_span f n p rows u h hu at =
     ∙ one-multiple f u hu.digits in (
       All-cons (λ x. InSpan f n (w ∷ rows) x) u rows
           (subst (λ x. InSpan f n (w ∷ rows) x) back (InSpan-multiple f n a (w ∷ rows) w (InSpan-first f n w rows hw h)))
-          (tail_within f n w rows hw h),
+          (more_within f n w rows hw h),
       All-cons (λ x. InSpan f n (u ∷ rows) x) w rows
           (InSpan-multiple f n (inverse f a) (u ∷ rows) u (InSpan-first f n u rows hu h))
-          (tail_within f n u rows hu h),
+          (more_within f n u rows hu h),
     )
 
 span_trans : (f : Field) (n : ℕ) (A B C : List (List ℕ)) → AreVectors f n A → AreVectors f n C → SameRowSpace f n A B → SameRowSpace f n B C →
@@ -135,7 +134,7 @@ pub basis_kept : (f : Field) (n : ℕ) (rows : List (List ℕ)) (ks v : List ℕ
     InSpan f n rows v → reduced_basis f n (v ∷ rows) ≡ rows
 basis_kept f n rows ks v h hv p =
     reduced_basis-same f n (v ∷ rows) rows (All-cons (λ x. IsVector f n x) v rows hv h.each) h.each
-    (All-cons (λ x. InSpan f n rows x) v rows p (IsWithin-itself f n rows h.each), tail_within f n v rows hv h.each)
+    (All-cons (λ x. InSpan f n rows x) v rows p (IsWithin-itself f n rows h.each), more_within f n v rows hv h.each)
     ∙ basis_of_reduced f n rows ks h.each h.leads_are h.clear
 
 pub basis_made : (f : Field) (n p : ℕ) (w : List ℕ) (rows : List (List ℕ)) (ks v : List ℕ) (more : List (List ℕ)) (more_ks : List ℕ) →
@@ -147,9 +146,6 @@ basis_made f n p w rows ks v more more_ks h hv adds r same =
     ∙ basis_of_reduced f n more more_ks r.each r.leads_are r.clear
 
 -- ---- row by row
-
-pub basis_of_none : (f : Field) (n : ℕ) → reduced_basis f n [] ≡ []
-basis_of_none f n = basis_of_reduced f n [] [] (All-nil (λ v. IsVector f n v)) tt tt
 
 pub basis_of_one_more : (f : Field) (n : ℕ) (rows : List (List ℕ)) (v : List ℕ) → AreVectors f n rows → IsVector f n v →
     reduced_basis f n (v ∷ reduced_basis f n rows) ≡ reduced_basis f n (rows ++ (v ∷ []))
@@ -169,7 +165,7 @@ basis_of_one_more f n rows v h hv =
     subst (λ (x : List ℕ). InSpan f n all x) (get_or_push rows v [] (length rows) refl)
     (it (length rows) [] (let e : length all ≡ length rows + 1 = length-append rows (v ∷ []) in omega arith)) in
     let first : IsWithin f n (v ∷ B) all = All-cons (λ x. InSpan f n all x) v B v_in (IsWithin-within f n B rows all hall b.span.1 rows_in) in
-    let in_B : IsWithin f n rows (v ∷ B) = IsWithin-within f n rows B (v ∷ B) hB b.span.0 (tail_within f n v B hv b.each) in
+    let in_B : IsWithin f n rows (v ∷ B) = IsWithin-within f n rows B (v ∷ B) hB b.span.0 (more_within f n v B hv b.each) in
     let second : IsWithin f n all (v ∷ B) =
     All-append (λ x. InSpan f n (v ∷ B) x) rows (v ∷ []) in_B
     (All-cons (λ x. InSpan f n (v ∷ B) x) v [] (InSpan-first f n v B hv b.each) (All-nil (λ x. InSpan f n (v ∷ B) x))) in

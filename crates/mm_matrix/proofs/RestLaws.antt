@@ -1,27 +1,23 @@
 -- Reduced rows at their leads, and what is left of a vector after one more row.
-use Rattle.std.proofs.Common.{ℕ, zero, suc, ◌+◌, ◌<◌, ◌≤◌, ◌≡◌, List, [], ◌∷◌, length, get_or, take, refl, sym, ap, ap₂, ◌∙◌, subst, arith, inl, inr}
+use Rattle.std.proofs.Common.{ℕ, zero, suc, ◌+◌, ◌<◌, ◌≡◌, List, [], ◌∷◌, length, get_or, sym, ap, ◌∙◌, subst, arith, inl, inr}
 use Rattle.std.proofs.Math.Nat.{eq-or-lt_of_le}
-use Rattle.std.proofs.lemmas.List.{get_or-replicate}
-use Rattle.std.proofs.lemmas.List.Elements.{All-cons, All-nil}
+use Rattle.std.proofs.lemmas.List.{get_or-replicate, get_or_default}
+use Rattle.std.proofs.lemmas.List.Elements.{All-cons}
 use Rattle.mm_field.specs.declared.Field.{Field}
-use Rattle.mm_field.specs.Digits.{order, plus, times, negative}
-use Rattle.mm_field.specs.Vectors.{zeros, vector_sum, multiple, IsVector, AreVectors, InSpan, IsWithin, SameRowSpace}
-use Rattle.mm_field.proofs.Tables.{times-zero, times_one_digit, plus-negative, plus_zero_digit, negative_below, zero_digit}
-use Rattle.mm_field.proofs.VectorLaws.{vector_sum_assoc, vector_sum-zeros, opposite-vector_sum, length-multiple, IsVector-vector_sum, IsVector-multiple, get_or-vector_sum, get_or-multiple}
-use Rattle.mm_field.proofs.CombinationLaws.{InSpan-vector_sum, InSpan-multiple, InSpan-first, InSpan-one_more, InSpan-zeros, InSpan-within, IsWithin-itself}
+use Rattle.mm_field.specs.Digits.{times, negative}
+use Rattle.mm_field.specs.Vectors.{zeros, vector_sum, multiple, IsVector, AreVectors, InSpan}
+use Rattle.mm_field.proofs.Tables.{times-zero}
+use Rattle.mm_field.proofs.VectorLaws.{vector_sum_assoc, vector_sum-zeros, opposite-vector_sum, length-multiple, IsVector-vector_sum, sum_entry}
+use Rattle.mm_field.proofs.CombinationLaws.{InSpan-vector_sum, InSpan-multiple, InSpan-first, InSpan-within}
 use Rattle.mm_linear.specs.LeftRows.{Leads}
 use Rattle.mm_linear.proofs.BasisLaws.{ended}
-use Rattle.mm_linear.proofs.PivotLaws.{last-ended, late_rows}
-use Rattle.mm_linear.proofs.LeftUnique.{entry_of_cut, leads_above}
+use Rattle.mm_linear.proofs.PivotLaws.{last-ended, late_rows, count_leads, entry_of_cut}
+use Rattle.mm_linear.proofs.LeftUnique.{leads_above}
+use Rattle.mm_linear.proofs.SumLaws.{more_within}
+use Rattle.mm_linear.proofs.InsertLaws.{cleared_at, sum_of_zeros}
 use Rattle.mm_matrix.specs.Rests.{IsRest}
 
 -- ---- entries at the leads
-
-pub count_leads : (n from : ℕ) (rows : List (List ℕ)) (ks : List ℕ) → Leads n from rows ks → length rows ≡ length ks
-count_leads n from [] [] h = refl
-count_leads n from [] (x ∷ ks) h = absurd h
-count_leads n from (v ∷ vs) [] h = absurd h
-count_leads n from (v ∷ vs) (x ∷ ks) h = ap suc (count_leads n (suc x) vs ks h.3)
 
 pub one_at_lead : (n from : ℕ) (rows : List (List ℕ)) (ks : List ℕ) → Leads n from rows ks → (i : ℕ) → i < length rows →
     get_or (get_or rows i []) (get_or ks i 0) 0 ≡ 1
@@ -58,9 +54,6 @@ pub record IsRestUpTo (f : Field) (n : ℕ) (rows : List (List ℕ)) (ks : List 
   pub there : InSpan f n (v ∷ rows) rest
   pub zero : (k : ℕ) → k < i → get_or rest (get_or ks k 0) 0 ≡ 0
 
-pub tail_within : (f : Field) (n : ℕ) (v : List ℕ) (rows : List (List ℕ)) → IsVector f n v → AreVectors f n rows → IsWithin f n rows (v ∷ rows)
-tail_within f n v rows hv h = λ k d l. IsWithin-itself f n (v ∷ rows) (All-cons (λ u. IsVector f n u) v rows hv h) (suc k) d (omega arith)
-
 pub rest_at_start : (f : Field) (n : ℕ) (rows : List (List ℕ)) (ks v : List ℕ) → AreVectors f n rows → IsVector f n v →
     IsRestUpTo f n rows ks v v 0
 rest_at_start f n rows ks v h hv = record {
@@ -69,17 +62,6 @@ rest_at_start f n rows ks v h hv = record {
   there = InSpan-first f n v rows hv h;
   zero = λ k l. absurd (omega arith);
 }
-
-entry_of_step : (f : Field) (n c j : ℕ) (u r : List ℕ) → IsVector f n u → length r ≡ n → j < n →
-    get_or (vector_sum f u (multiple f c r)) j 0 ≡ plus f (get_or u j 0) (times f c (get_or r j 0))
-entry_of_step f n c j u r hu lr l =
-    let lu = hu.len in
-    let lm = length-multiple f c r in
-    get_or-vector_sum f u (multiple f c r) j (lu ∙ sym lr ∙ sym lm) (omega arith)
-    ∙ ap (λ x. plus f (get_or u j 0) x) (get_or-multiple f c r j (omega arith))
-
-digit_at : (f : Field) (n j : ℕ) (u : List ℕ) → IsVector f n u → j < n → get_or u j 0 < order f
-digit_at f n j u h l = h.digits j 0 (let e = h.len in omega arith)
 
 pub rest_step : (f : Field) (n i : ℕ) (rows : List (List ℕ)) (ks v u : List ℕ) → AreVectors f n rows → Leads n 0 rows ks → IsVector f n v →
     i < length rows → IsRestUpTo f n rows ks v u i →
@@ -95,8 +77,8 @@ rest_step f n i rows ks v u h leads hv l rest =
     let hn : IsVector f n next = IsVector-vector_sum f n u (multiple f c r) rest.vector.len (lm ∙ hr.len) in
     let old_rows = All-cons (λ w. IsVector f n w) v rows hv h in
     let new_rows = All-cons (λ w. IsVector f n w) next rows hn h in
-    let row_in_new : InSpan f n (next ∷ rows) r = tail_within f n next rows hn h i [] l in
-    let row_in_old : InSpan f n (v ∷ rows) r = tail_within f n v rows hv h i [] l in
+    let row_in_new : InSpan f n (next ∷ rows) r = more_within f n next rows hn h i [] l in
+    let row_in_old : InSpan f n (v ∷ rows) r = more_within f n v rows hv h i [] l in
     let u_in_new : InSpan f n (next ∷ rows) u =
     subst (λ w. InSpan f n (next ∷ rows) w) (sum_and_back f n c u r rest.vector hr.len)
     (InSpan-vector_sum f n (next ∷ rows) next (multiple f (negative f 1) (multiple f c r)) (InSpan-first f n next rows hn h)
@@ -105,7 +87,7 @@ rest_step f n i rows ks v u h leads hv l rest =
       vector = hn;
       back =
           InSpan-within f n (u ∷ rows) (next ∷ rows) v new_rows
-          (All-cons (λ w. InSpan f n (next ∷ rows) w) u rows u_in_new (tail_within f n next rows hn h)) rest.back;
+          (All-cons (λ w. InSpan f n (next ∷ rows) w) u rows u_in_new (more_within f n next rows hn h)) rest.back;
       there = InSpan-vector_sum f n (v ∷ rows) u (multiple f c r) rest.there (InSpan-multiple f n c (v ∷ rows) r row_in_old);
       zero = λ k m. at_lead f n i rows ks u leads rest.vector hr.len l rest.zero k m;
     }
@@ -122,13 +104,12 @@ rest_step f n i rows ks v u h leads hv l rest =
         elim (eq-or-lt_of_le {n = k} {m = i} (omega arith)) [
           | inl e ↦
               subst (λ (x : ℕ). get_or (vector_sum f u (multiple f (negative f a) r)) (get_or ks x 0) 0 ≡ 0) (sym e)
-              (entry_of_step f n (negative f a) (get_or ks i 0) u r hu lr (leads_above n 0 rows ks leads i 0 (omega arith)).1
-              ∙ ap (λ x. plus f a (times f (negative f a) x)) (one_at_lead n 0 rows ks leads i l)
-              ∙ ap (λ x. plus f a x) (times_one_digit f (negative f a) (negative_below f a)) ∙ plus-negative f a)
+              (sum_entry f n (negative f a) u r (get_or ks i 0) hu.len lr (leads_above n 0 rows ks leads i 0 (omega arith)).1
+              ∙ cleared_at f a (get_or r (get_or ks i 0) 0) (one_at_lead n 0 rows ks leads i l))
           | inr s ↦
-              entry_of_step f n (negative f a) (get_or ks k 0) u r hu lr below
-              ∙ ap₂ (λ x y. plus f x (times f (negative f a) y)) (before k s) (zero_at_earlier n 0 rows ks leads k i s l)
-              ∙ ap (λ x. plus f 0 x) (times-zero f (negative f a)) ∙ plus_zero_digit f 0 (zero_digit f)
+              sum_entry f n (negative f a) u r (get_or ks k 0) hu.len lr below
+              ∙ sum_of_zeros f (get_or u (get_or ks k 0) 0) _ (before k s)
+              (ap (times f (negative f a)) (zero_at_earlier n 0 rows ks leads k i s l) ∙ times-zero f (negative f a))
         ]
 
 pub rest_at_end : (f : Field) (n : ℕ) (rows : List (List ℕ)) (ks v rest : List ℕ) → Leads n 0 rows ks →
@@ -137,10 +118,5 @@ rest_at_end f n rows ks v rest leads h = record {
   vector = h.vector;
   back = h.back;
   there = h.there;
-  zero = λ k d l. ap (λ (x : ℕ). get_or rest x 0) (same_get ks k d l) ∙ h.zero k (let e = count_leads n 0 rows ks leads in omega arith);
+  zero = λ k d l. ap (λ (x : ℕ). get_or rest x 0) (get_or_default ks k d 0 l) ∙ h.zero k (let e = count_leads n 0 rows ks leads in omega arith);
 }
-  where
-    same_get : (ks : List ℕ) (k d : ℕ) → k < length ks → get_or ks k d ≡ get_or ks k 0
-    same_get [] k d l = absurd (omega arith)
-    same_get (x ∷ ks) zero d l = refl
-    same_get (x ∷ ks) (suc k) d l = same_get ks k d (omega arith)

@@ -33,11 +33,6 @@ pub AreVectors-set : (f : Field) (n : ℕ) (rows : List (Vec ℕ Global)) (i : �
 AreVectors-set f n rows i w h hw =
     subst (λ xs. AreVectors f n xs) (sym (map-set digits_of rows i w)) (All-set (λ v. IsVector f n v) (map digits_of rows) i w.items hw h)
 
-pub get_or_same : (xs : List ℕ) (i d e : ℕ) → i < length xs → get_or xs i d ≡ get_or xs i e
-get_or_same [] i d e l = absurd (omega arith)
-get_or_same (x ∷ xs) zero d e l = refl
-get_or_same (x ∷ xs) (suc i) d e l = get_or_same xs i d e (omega arith)
-
 -- ---- a loop that writes h of each row over it
 
 -- how far such a loop has come

@@ -1,18 +1,14 @@
 -- Independence of rows, one row before the others.
-use Rattle.std.proofs.Common.{ℕ, zero, suc, ◌≡◌, Bool, true, false, List, [], ◌∷◌, drop, get_or, refl, sym, subst, ◌↔◌}
-use Rattle.std.proofs.lemmas.List.Elements.{All-cons, All-nil}
+use Rattle.std.proofs.Common.{ℕ, zero, suc, ◌≡◌, true, false, List, [], ◌∷◌, drop, get_or, sym, subst, ◌↔◌}
+use Rattle.std.proofs.lemmas.List.Elements.{All-cons}
+use Rattle.std.proofs.lemmas.Bool.{false_from_ne_true, both_ways}
 use Rattle.mm_field.specs.declared.Field.{Field}
 use Rattle.mm_field.specs.Vectors.{IsVector, AreVectors, InSpan, IsWithin}
 use Rattle.mm_field.proofs.CombinationLaws.{first_row, other_rows, InSpan-within, InSpan-first, InSpan-one_more, IsWithin-within}
 use Rattle.mm_linear.specs.Decide.{is_independent}
 use Rattle.mm_linear.proofs.DecideLaws.{is_independent_decides}
-use Rattle.mm_linear.proofs.LeafLaws.{none_independent}
 use Rattle.mm_space.specs.SpaceValue.{SpaceValue, IsIn, IsSpanOf}
 use Rattle.mm_linear.proofs.IndependenceLaws.{independent_more, independent_rest, independent_outside}
-
-not_true : (b : Bool) → (b ≡ true → ⊥) → b ≡ false
-not_true true n = absurd (n refl)
-not_true false n = refl
 
 -- a row outside the span of independent rows
 pub one_more : (f : Field) (n : ℕ) (v : List ℕ) (vs : List (List ℕ)) → AreVectors f n (v ∷ vs) → is_independent f n vs ≡ true →
@@ -25,7 +21,7 @@ one_more f n v vs h e out =
 -- a row in the span of the others
 pub one_too_many : (f : Field) (n : ℕ) (v : List ℕ) (vs : List (List ℕ)) → AreVectors f n (v ∷ vs) → InSpan f n vs v →
     is_independent f n (v ∷ vs) ≡ false
-one_too_many f n v vs h inside = not_true (is_independent f n (v ∷ vs)) (λ e.
+one_too_many f n v vs h inside = false_from_ne_true (is_independent f n (v ∷ vs)) (λ e.
     independent_outside f n v vs (first_row f n v vs h) ((is_independent_decides f n (v ∷ vs) h).0 e) inside)
 
 -- dependent rows stay so with rows before them
@@ -35,18 +31,11 @@ dependent_tail f n zero g h e = e
 dependent_tail f n (suc k) [] h e = e
 dependent_tail f n (suc k) (v ∷ vs) h e =
     let hs = other_rows f n v vs h in
-    not_true (is_independent f n (v ∷ vs)) (λ t.
-    false_true (is_independent f n vs) (dependent_tail f n k vs hs e)
+    false_from_ne_true (is_independent f n (v ∷ vs)) (λ t.
+    both_ways (is_independent f n vs) (dependent_tail f n k vs hs e)
     ((is_independent_decides f n vs hs).1 (independent_rest f n v vs (first_row f n v vs h) ((is_independent_decides f n (v ∷ vs) h).0 t))))
-  where
-    false_true : (b : Bool) → b ≡ false → b ≡ true → ⊥
-    false_true true p q = cc
-    false_true false p q = cc
 
 -- ---- spans that grow by a row
-
-pub no_rows_independent : (f : Field) (n : ℕ) → is_independent f n [] ≡ true
-no_rows_independent f n = (is_independent_decides f n [] (All-nil (λ v. IsVector f n v))).1 (none_independent f n)
 
 pub in_span_of : (f : Field) (r : ℕ) (vectors : List (List ℕ)) (s : SpaceValue) (v : List ℕ) → AreVectors f r vectors → IsSpanOf f r vectors s →
     IsIn s v ↔ InSpan f r vectors v

@@ -3,6 +3,7 @@ use Rattle.std.proofs.Common.{◌≡◌, ◌<◌, ◌+◌, ℕ, suc, zero, Bool,
 use Rattle.std.specs.List.{items_where_true, list_any, list_all}
 use Rattle.std.specs.declared.vec.Vec.{Vec}
 use Rattle.std.proofs.Math.Seq.{take-suc}
+use Rattle.std.proofs.Math.Bool.{or-true, and-false}
 use Rattle.std.proofs.lemmas.List.{map-append, length-map, length-take-le, length-replicate, get_or-map, take_all}
 use Rattle.std.proofs.lemmas.List.Elements.{All-nil, All-cons, All-map, All-append}
 use Rattle.mm_linear.proofs.LeafLaws.{chosen-append}
@@ -63,24 +64,12 @@ set_length n sets i set h l e =
 pub some_passes : {X : Type 0} (p : X → Bool) (xs : List X) (i : ℕ) (d : X) → i < length xs → p (get_or xs i d) ≡ true → list_any p xs ≡ true
 some_passes p [] i d l h = absurd (omega arith)
 some_passes p (x ∷ xs) zero d l h = ap (λ b. b || list_any p xs) h
-some_passes p (x ∷ xs) (suc i) d l h = ap (λ b. p x || b) (some_passes p xs i d (omega (arith, l)) h) ∙ either (p x)
-  where
-    either : (b : Bool) → (b || true) ≡ true
-    either true = refl
-    either false = refl
+some_passes p (x ∷ xs) (suc i) d l h = ap (λ b. p x || b) (some_passes p xs i d (omega (arith, l)) h) ∙ or-true (p x)
 
 pub one_fails : (p : List Bool → Bool) (xs : List (List Bool)) (i : ℕ) (d : List Bool) → i < length xs → p (get_or xs i d) ≡ false → list_all p xs ≡ false
 one_fails p [] i d l h = absurd (omega arith)
 one_fails p (x ∷ xs) zero d l h = ap (λ b. b && list_all p xs) h
-one_fails p (x ∷ xs) (suc i) d l h = ap (λ b. p x && b) (one_fails p xs i d (omega (arith, l)) h) ∙ both (p x)
-  where
-    both : (b : Bool) → (b && false) ≡ false
-    both true = refl
-    both false = refl
-
-pub list_all-map : {A B : Type 0} (p : B → Bool) (f : A → B) (xs : List A) → list_all p (map f xs) ≡ list_all (λ x. p (f x)) xs
-list_all-map p f [] = refl
-list_all-map p f (x ∷ xs) = ap (λ b. p (f x) && b) (list_all-map p f xs)
+one_fails p (x ∷ xs) (suc i) d l h = ap (λ b. p x && b) (one_fails p xs i d (omega (arith, l)) h) ∙ and-false (p x)
 
 pub length-singles : (n : ℕ) → All (λ X. length X ≡ n) (singles n)
 length-singles zero = All-nil (λ X. length X ≡ zero)

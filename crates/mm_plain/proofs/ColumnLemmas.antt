@@ -1,13 +1,10 @@
 -- Lists of rows, and the columns of a join.
-use Rattle.std.proofs.Common.{◌≡◌, ◌<◌, ◌≤◌, ◌+◌, ◌-◌, ℕ, suc, Bool, true, false, not, cond, List, [], ◌∷◌, ◌++◌, map, filter, length, get_or, take, drop, refl, sym, ap, ap₂, ◌∙◌, subst, arith, append-nil}
-use Rattle.std.specs.List.{range_with_len}
+use Rattle.std.proofs.Common.{◌≡◌, ◌<◌, ◌≤◌, ◌+◌, ◌-◌, ℕ, suc, List, [], ◌∷◌, ◌++◌, map, length, get_or, take, drop, refl, sym, ap, ap₂, ◌∙◌, subst, arith, append-nil}
 use Rattle.std.specs.declared.vec.Vec.{Vec}
 use Rattle.std.proofs.lemmas.List.{take_all, map-append, length-drop, get_or-map, length-map, take_at, drop_at}
-use Rattle.std.proofs.lemmas.List.Elements.{filter-append}
-use Rattle.std.proofs.lemmas.List.FromFn.{map-range_with_len_more}
 use Rattle.mm_field.specs.declared.Field.{Field}
 use Rattle.mm_field.specs.Vectors.{AreDigits, AreVectors, zeros, through}
-use Rattle.mm_linear.specs.Coordinates.{unit, is_pivot, completed, coordinates, in_coordinates}
+use Rattle.mm_linear.specs.Coordinates.{completed, coordinates, in_coordinates}
 use Rattle.mm_field.proofs.CombinationLaws.{IsVector-combination}
 use Rattle.mm_linear.specs.Joins.{left_column, right_column}
 use Rattle.mm_linear.proofs.BasisLaws.{completed_is_basis}
@@ -18,10 +15,7 @@ use Rattle.mm_plain.specs.Trees.{joined_column, joined_columns}
 -- a list of numbers is its first one and the others
 pub digits_split : (ds : List ℕ) → 1 ≤ length ds → ds ≡ get_or ds 0 0 ∷ take (length ds - 1) (drop 1 ds)
 digits_split [] l = absurd (omega arith)
-digits_split (d ∷ ds) l = ap (λ xs. d ∷ xs) (sym (all ds (length (d ∷ ds) - 1) (omega arith)))
-  where
-    all : (xs : List ℕ) (n : ℕ) → n ≡ length xs → take n xs ≡ xs
-    all xs n e = ap (λ k. take k xs) e ∙ take_all (length xs) xs (omega arith)
+digits_split (d ∷ ds) l = ap (λ xs. d ∷ xs) (sym (take_all (length (d ∷ ds) - 1) ds (omega arith)))
 
 pub other_digits : (f : Field) (d : ℕ) (ds : List ℕ) → AreDigits f (d ∷ ds) → AreDigits f ds
 other_digits f d ds h k e l = h (suc k) e (omega (arith, l))
@@ -31,30 +25,6 @@ pub cut_at_length : (f : Field) (r : ℕ) (rows : List (List ℕ)) → AreVector
 cut_at_length f r [] h = refl
 cut_at_length f r (v ∷ rows) h =
     (λ i. take_all r v (let e = (h 0 v (omega arith)).len in omega arith) i ∷ cut_at_length f r rows (λ k d l. h (suc k) d (omega (arith, l))) i)
-
-pub one_more : (k : ℕ) → range_with_len 0 (k + 1) ≡ range_with_len 0 k ++ (k ∷ [])
-one_more k = sym (same (range_with_len 0 (k + 1))) ∙ map-range_with_len_more (λ x. x) 0 k k (omega arith) ∙ ap (λ xs. xs ++ (k ∷ [])) (same (range_with_len 0 k))
-  where
-    same : (xs : List ℕ) → map (λ x. x) xs ≡ xs
-    same [] = refl
-    same (x ∷ xs) = ap (λ ys. x ∷ ys) (same xs)
-
--- the unit vectors at the free columns up to k + 1 are those up to k, and perhaps one more
-pub free_next : (f : Field) (r k : ℕ) (g : List (List ℕ)) (b : Bool) → b ≡ is_pivot f g k →
-    map (unit r) (filter (λ j. not (is_pivot f g j)) (range_with_len 0 (k + 1)))
-    ≡ map (unit r) (filter (λ j. not (is_pivot f g j)) (range_with_len 0 k)) ++ cond (not b) (unit r k ∷ []) []
-free_next f r k g b e =
-    ap (λ xs. map (unit r) (filter q xs)) (one_more k)
-    ∙ ap (map (unit r)) (filter-append q (range_with_len 0 k) (k ∷ []))
-    ∙ map-append (unit r) (filter q (range_with_len 0 k)) (filter q (k ∷ []))
-    ∙ ap (λ xs. map (unit r) (filter q (range_with_len 0 k)) ++ xs) (by (is_pivot f g k) ∙ ap (λ c. cond (not c) (unit r k ∷ []) []) (sym e))
-  where
-    q : ℕ → Bool
-    q = λ j. not (is_pivot f g j)
-
-    by : (c : Bool) → map (unit r) (cond (not c) (k ∷ []) []) ≡ cond (not c) (unit r k ∷ []) []
-    by true = refl
-    by false = refl
 
 -- the part of a list from a place on
 pub tail_part : {A : Type 0} (t : ℕ) (v : List A) → take (length v - t) (drop t v) ≡ drop t v

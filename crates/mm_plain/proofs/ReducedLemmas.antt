@@ -8,13 +8,13 @@ use Rattle.std.proofs.Math.Seq.{take-suc}
 use Rattle.mm_field.specs.declared.Field.{Field}
 use Rattle.mm_field.specs.Digits.{plus, times, negative}
 use Rattle.mm_field.specs.Vectors.{zeros, vector_sum, multiple, IsVector, AreVectors, InSpan}
-use Rattle.mm_field.proofs.Tables.{times_one_digit, times-zero, plus-negative, plus_zero_digit, zero_digit, negative_below}
-use Rattle.mm_field.proofs.VectorLaws.{zeros-vector_sum, one-multiple, IsVector-multiple, get_or-vector_sum, get_or-multiple}
+use Rattle.mm_field.proofs.Tables.{times-zero}
+use Rattle.mm_field.proofs.VectorLaws.{zeros-vector_sum, one-multiple, sum_entry}
 use Rattle.mm_field.proofs.CombinationLaws.{InSpan-vector_sum, InSpan-multiple, IsWithin-itself}
 use Rattle.mm_linear.specs.LeftRows.{Leads, Clear, IsLeftBasis}
 use Rattle.mm_linear.proofs.BasisLaws.{ended, less_and_more}
-use Rattle.mm_linear.proofs.PivotLaws.{cut-ended, last-ended, take-shorter, lead_of_combination}
-use Rattle.mm_linear.proofs.LeftUnique.{entry_of_cut, zero_at_leads, leads_above}
+use Rattle.mm_linear.proofs.PivotLaws.{cut-ended, last-ended, take-shorter, lead_of_combination, entry_of_cut, count_leads}
+use Rattle.mm_linear.proofs.LeftUnique.{zero_at_leads, leads_above}
 use Rattle.std.specs.declared.vec.Vec.{Vec}
 use Rattle.std.proofs.lemmas.List.{length-map, length-append, length-replicate}
 use Rattle.std.proofs.lemmas.List.Elements.{All-filter, All-append}
@@ -27,6 +27,7 @@ use Rattle.mm_linear.proofs.LeftRowsLaws.{reduced_basis_is}
 use Rattle.mm_linear.proofs.MeetTest.{is_in_span_decides}
 use Rattle.mm_linear.proofs.SubspaceLaws.{IsVector-in_span}
 use Rattle.mm_linear.proofs.SubspaceTests.{Contains-filter, all_vectors_contain, all_vectors_are, boundary_space_is}
+use Rattle.mm_linear.proofs.InsertLaws.{sum_of_zeros, cleared_at}
 use Rattle.mm_plain.specs.Rows.{rows_of}
 use Rattle.mm_plain.specs.Spaces.{IsSpace, HasLead, IsReducedRow}
 
@@ -51,12 +52,6 @@ lead_from k v l z one =
 pub lead_zeros : (k : ℕ) (v : List ℕ) → HasLead k v → list_all (λ d. d == 0) (take k v) ≡ true
 lead_zeros k v h =
     ap (list_all (λ d. d == 0)) (sym (take-shorter k (suc k) v (omega arith)) ∙ ap (take k) h ∙ cut-ended k k (omega arith)) ∙ zeros_all k
-
-as_many : (n from : ℕ) (rows : List (List ℕ)) (ks : List ℕ) → Leads n from rows ks → length rows ≡ length ks
-as_many n from [] [] h = refl
-as_many n from [] (x ∷ ks) h = absurd h
-as_many n from (v ∷ rows) [] h = absurd h
-as_many n from (v ∷ rows) (x ∷ ks) h = ap suc (as_many n (suc x) rows ks h.3)
 
 lead_of_row : (n from : ℕ) (rows : List (List ℕ)) (ks : List ℕ) → Leads n from rows ks → (i : ℕ) → i < length ks →
     HasLead (get_or ks i 0) (get_or rows i [])
@@ -94,24 +89,17 @@ clear_later (v ∷ rows) (x ∷ ks) h (suc i) (suc j) l m k = clear_later rows k
 abbrev pub difference : Field → List ℕ → List ℕ → List ℕ
 difference f v w = vector_sum f v (multiple f (negative f 1) w)
 
-difference_at : (f : Field) (t x : ℕ) (v w : List ℕ) → IsVector f t v → IsVector f t w → x < t →
-    get_or (difference f v w) x 0 ≡ plus f (get_or v x 0) (times f (negative f 1) (get_or w x 0))
-difference_at f t x v w hv hw l =
-    let hm = IsVector-multiple f t (negative f 1) w hw.len in
-    get_or-vector_sum f v (multiple f (negative f 1) w) x (hv.len ∙ sym hm.len) (omega (arith, hm.len))
-    ∙ ap (λ d. plus f (get_or v x 0) d) (get_or-multiple f (negative f 1) w x (omega (arith, hw.len)))
-
 both_zero : (f : Field) (t x : ℕ) (v w : List ℕ) → IsVector f t v → IsVector f t w → x < t → get_or v x 0 ≡ 0 → get_or w x 0 ≡ 0 →
     get_or (difference f v w) x 0 ≡ 0
 both_zero f t x v w hv hw l a b =
-    difference_at f t x v w hv hw l ∙ ap₂ (λ s d. plus f s (times f (negative f 1) d)) a b
-    ∙ ap (λ d. plus f 0 d) (times-zero f (negative f 1)) ∙ plus_zero_digit f 0 (zero_digit f)
+    sum_entry f t (negative f 1) v w x hv.len hw.len l
+    ∙ sum_of_zeros f (get_or v x 0) _ a (ap (times f (negative f 1)) b ∙ times-zero f (negative f 1))
 
 both_one : (f : Field) (t x : ℕ) (v w : List ℕ) → IsVector f t v → IsVector f t w → x < t → get_or v x 0 ≡ 1 → get_or w x 0 ≡ 1 →
     get_or (difference f v w) x 0 ≡ 0
 both_one f t x v w hv hw l a b =
-    difference_at f t x v w hv hw l ∙ ap₂ (λ s d. plus f s (times f (negative f 1) d)) a b
-    ∙ ap (λ d. plus f 1 d) (times_one_digit f (negative f 1) (negative_below f 1)) ∙ plus-negative f 1
+    sum_entry f t (negative f 1) v w x hv.len hw.len l
+    ∙ ap (λ s. plus f s (times f (negative f 1) (get_or w x 0))) a ∙ cleared_at f 1 (get_or w x 0) b
 
 no_difference : (f : Field) (t : ℕ) (v w : List ℕ) → IsVector f t v → IsVector f t w → difference f v w ≡ zeros t → v ≡ w
 no_difference f t v w hv hw e =
@@ -122,7 +110,7 @@ no_difference f t v w hv hw e =
 -- what a row and its lead are, in the basis of the listed space
 module _ (f : Field) (t : ℕ) (vs rows : List (List ℕ)) (sp : IsSpace f t vs) (known : IsLeftBasis f t vs rows) where
   count_is : length rows ≡ length known.leads
-  count_is = as_many t 0 rows known.leads known.echelon
+  count_is = count_leads t 0 rows known.leads known.echelon
 
   -- a vector of the space is in the span of the basis, and a row of the basis is in the space
   inside : (i : ℕ) → i < length vs → InSpan f t rows (get_or vs i [])

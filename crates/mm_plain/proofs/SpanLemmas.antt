@@ -11,16 +11,15 @@ use Rattle.mm_field.specs.Vectors.{vector_sum, multiple, IsVector, AreVectors, I
 use Rattle.mm_field.proofs.VectorLaws.{vector_sum_comm}
 use Rattle.mm_field.proofs.CombinationLaws.{first_row, other_rows, combination-none, InSpan-zeros}
 use Rattle.std.proofs.lemmas.List.Elements.{All-nil}
+use Rattle.std.proofs.lemmas.Bool.{false_from_ne_true}
 use Rattle.mm_linear.specs.Coordinates.{less}
 use Rattle.mm_linear.specs.Decide.{is_in_span, is_independent, new_place, echelon_of}
 use Rattle.mm_linear.proofs.MeetTest.{is_in_span_decides}
 use Rattle.mm_linear.proofs.SubspaceLaws.{split_first}
 use Rattle.mm_linear.proofs.BasisLaws.{IsVector-cons, less_and_more}
 use Rattle.mm_linear.proofs.CoordinateLaws.{IsVector-less, rest_is_less}
+use Rattle.mm_linear.proofs.SpaceLaws.{false_true}
 use Rattle.mm_laws.proofs.MatrixLemmas.{all_zero, zeros_all}
-
-no : {P : Type 0} → false ≡ true → P
-no e = let c : false ≡ true = e in cc
 
 -- the span of no rows is the zero vector
 pub in_none : (f : Field) (v : List ℕ) → IsVector f (length v) v → list_all (λ d. d == 0) v ≡ is_in_span f (length v) [] v
@@ -36,10 +35,10 @@ in_none f v h = by (list_all (λ d. d == 0) v) refl (is_in_span f (length v) [] 
     by true e true k = refl
     by false e false k = refl
     by true e false k =
-        no (sym k ∙ decides.1 (subst (λ u. InSpan f n [] u) (sym (all_zero v e)) (InSpan-zeros f n [] (All-nil (λ u. IsVector f n u)))))
+        false_true _ (sym k ∙ decides.1 (subst (λ u. InSpan f n [] u) (sym (all_zero v e)) (InSpan-zeros f n [] (All-nil (λ u. IsVector f n u)))))
     by false e true k =
         let p = decides.0 k in
-        no (sym e ∙ ap (list_all (λ d. d == 0)) (sym p.sum ∙ combination-none f n p.coefficients) ∙ zeros_all n)
+        false_true _ (sym e ∙ ap (list_all (λ d. d == 0)) (sym p.sum ∙ combination-none f n p.coefficients) ∙ zeros_all n)
 
 -- what is left after a multiple of the first row is taken away
 pub found_here : (f : Field) (n c : ℕ) (v x : List ℕ) (rows : List (List ℕ)) → AreVectors f n (v ∷ rows) → IsVector f n x → c < order f →
@@ -60,16 +59,12 @@ found_here f n c v x rows h hx lc e =
 
 pub found_nowhere : (f : Field) (n : ℕ) (v x : List ℕ) (rows : List (List ℕ)) → AreVectors f n (v ∷ rows) → IsVector f n x →
     ((c : ℕ) → c < order f → is_in_span f n rows (less f x c v) ≡ false) → is_in_span f n (v ∷ rows) x ≡ false
-found_nowhere f n v x rows h hx none = not_so (is_in_span f n (v ∷ rows) x) (λ e.
+found_nowhere f n v x rows h hx none = false_from_ne_true (is_in_span f n (v ∷ rows) x) (λ e.
     let hv = first_row f n v rows h in
     let hs = other_rows f n v rows h in
     let s = split_first f n v rows x ((is_in_span_decides f n (v ∷ rows) x h hx).0 e) in
     let t = (is_in_span_decides f n rows (less f x s.factor v) hs (IsVector-less f n s.factor x v hx.len hv.len)).1 (rest_is_less f n v x rows hs hv s) in
-    no (sym (none s.factor s.digit) ∙ t))
-  where
-    not_so : (b : Bool) → (b ≡ true → ⊥) → b ≡ false
-    not_so true q = absurd (q refl)
-    not_so false q = refl
+    false_true _ (sym (none s.factor s.digit) ∙ t))
 
 -- a row is new exactly where it is in no span of the others
 pub independent_first : (f : Field) (n : ℕ) (v : List ℕ) (rows : List (List ℕ)) →
@@ -81,18 +76,11 @@ independent_first f n v rows = ap (λ b. is_independent f n rows && b) (by (new_
     by None = refl
     by (Some p) = refl
 
-pub none_independent : (f : Field) (n : ℕ) → is_independent f n [] ≡ true
-unfolding is_independent
-none_independent f n = refl
-
 -- the rows are the first one and the others
 pub rows_split : {A : Type 0} (rows : List (Vec ℕ A)) (first : Vec ℕ A) → 1 ≤ length rows → first ≡ get_or rows 0 first →
     rows_of rows ≡ first.items ∷ rows_of (take (length rows - 1) (drop 1 rows))
 rows_split {A = A} [] first l e = absurd (omega arith)
-rows_split {A = A} (v ∷ rows) first l e = (λ i. (sym e i).items ∷ rows_of (sym (all rows (length (v ∷ rows) - 1) (omega arith)) i))
-  where
-    all : (xs : List (Vec ℕ A)) (n : ℕ) → n ≡ length xs → take n xs ≡ xs
-    all xs n e = ap (λ k. take k xs) e ∙ take_all (length xs) xs (omega arith)
+rows_split {A = A} (v ∷ rows) first l e = (λ i. (sym e i).items ∷ rows_of (sym (take_all (length (v ∷ rows) - 1) rows (omega arith)) i))
 
 pub rows_none : {A : Type 0} (rows : List (Vec ℕ A)) → length rows < 1 → rows_of rows ≡ []
 rows_none [] l = refl

@@ -1,7 +1,8 @@
 -- Weights and leaf words, one element after the other; and the first of a list of sets.
-use Rattle.std.proofs.Common.{◌≡◌, ◌<◌, ◌+◌, ℕ, suc, zero, Bool, true, false, if◌then◌else◌, ℤ, pos, ◌+ℤ◌, cond, List, [], ◌∷◌, length, get_or, take, drop, refl, ap, ap₂, ◌∙◌, arith, add-one, filter}
+use Rattle.std.proofs.Common.{◌≡◌, ◌<◌, ◌+◌, ℕ, suc, zero, Bool, true, false, if◌then◌else◌, ℤ, pos, ◌+ℤ◌, cond, List, [], ◌∷◌, length, get_or, take, drop, refl, ap, ap₂, ◌∙◌, arith, add-one, filter, sym}
 use Rattle.std.proofs.lemmas.Int.{ints}
 use Rattle.std.proofs.lemmas.List.{at_drop_more, length-replicate}
+use Rattle.std.proofs.Math.IntN.{+ℤ_assoc}
 use Rattle.std.specs.Cmp.Lexicographic.{slice_partial_cmp}
 use Rattle.std.specs.Ordering.{partial_lt, as_partial_cmp, bool_cmp}
 use Rattle.mm_field.specs.declared.Field.{Field}
@@ -17,9 +18,6 @@ add_nothing w = omega (arith, ints)
 add_zero : (w : ℤ) → w +ℤ pos 0 ≡ pos 0 +ℤ w
 add_zero w = omega (arith, ints)
 
-add_assoc_z : (a b c : ℤ) → a +ℤ (b +ℤ c) ≡ (a +ℤ b) +ℤ c
-add_assoc_z a b c = omega (arith, ints)
-
 more : (i : ℕ) (ws : List ℤ) (X : List Bool) → i < length ws → length X ≡ length ws →
     weight (take (suc i) ws) (take (suc i) X) ≡ weight (take i ws) (take i X) +ℤ cond (get_or X i false) (get_or ws i (pos 0)) (pos 0)
 more i [] X l e = absurd (omega arith)
@@ -28,7 +26,7 @@ more zero (w ∷ ws) (true ∷ X) l e = add_zero w
 more zero (w ∷ ws) (false ∷ X) l e = refl
 more (suc i) (w ∷ ws) (true ∷ X) l e =
     ap (λ s. w +ℤ s) (more i ws X (omega arith) (omega arith))
-    ∙ add_assoc_z w (weight (take i ws) (take i X)) (cond (get_or X i false) (get_or ws i (pos 0)) (pos 0))
+    ∙ sym (+ℤ_assoc w (weight (take i ws) (take i X)) (cond (get_or X i false) (get_or ws i (pos 0)) (pos 0)))
 more (suc i) (w ∷ ws) (false ∷ X) l e = more i ws X (omega arith) (omega arith)
 
 -- the weight with one more element

@@ -1,14 +1,16 @@
 -- What a comparison finds: names that are missing, rows in another order, rows outside a row space.
-use Rattle.std.proofs.Common.{All, ℕ, zero, suc, ◌+◌, ◌<◌, ◌≤◌, ◌≡◌, Bool, true, false, cond, not, ◌||◌, Option, Some, None, List, [], ◌∷◌, ◌++◌, length, map, find, position, get_or, slice_get, take, drop, refl, sym, ap, ap₂, subst, ◌∙◌, arith, take-append-drop}
+use Rattle.std.proofs.Common.{All, ℕ, ◌+◌, ◌<◌, ◌≤◌, ◌≡◌, Bool, true, false, cond, not, ◌||◌, Option, Some, None, List, [], ◌∷◌, ◌++◌, length, map, find, position, get_or, slice_get, take, drop, refl, sym, ap, ap₂, subst, ◌∙◌, arith, take-append-drop}
 use Rattle.std.specs.Prelude.{MatchOption, IfSome, nat_lt}
-use Rattle.std.specs.Cmp.{IsEquivalence}
 use Rattle.std.specs.List.{IsDistinct, list_any, position_or_len}
 use Rattle.std.specs.Str.{bytes_eq}
-use Rattle.std.proofs.lemmas.Bool.{lt-ltb, le-ltb, ltb-true}
+use Rattle.std.proofs.lemmas.Bool.{lt-ltb, le-ltb, ltb-true, false_from_ne_true, both_ways}
 use Rattle.std.proofs.lemmas.List.{drop_more, drop_all, take_more, length-map, map_push, get_or-take, length-take-le}
 use Rattle.std.proofs.lemmas.List.Elements.{All-nil, All-cons}
 use Rattle.std.proofs.lemmas.List.Sums.{position_or_len_is}
 use Rattle.std.proofs.lemmas.Map.Made.{length-le_from_is_member}
+use Rattle.std.proofs.lemmas.Cmp.{nat_list_eq_equiv}
+use Rattle.std.proofs.lemmas.Simd.{map-map}
+use Rattle.std.proofs.lemmas.Option.{get_or_from_slice_get}
 use Rattle.indexmap.specs.IndexSet.{insert_key}
 use Rattle.mm_base.specs.contracts.name.NamePartialEq.TheImpl.{eq-value}
 use Rattle.mm_field.specs.declared.Field.{Field}
@@ -20,61 +22,40 @@ use Rattle.mm_linear.specs.Decide.{is_in_span}
 use Rattle.mm_linear.proofs.MeetTest.{is_in_span_decides}
 use Rattle.mm_matrix.specs.MatrixValue.{MatrixValue}
 use Rattle.mm_matrix.specs.Outside.{IsFirstOutside}
-use Rattle.mm_base.proofs.NameLaws.{name_eq}
+use Rattle.mm_base.proofs.NameLaws.{name_eq, bytes_same, same_bytes}
 use Rattle.mm_tree.specs.NamedTree.{Tree, element_names, is_one_of}
 use Rattle.mm_tree.proofs.BuilderLaws.{any_name, insert_new}
-use Rattle.mm_tree.proofs.NameLaws.{name_same, same_name, distinct_left, distinct_apart}
+use Rattle.mm_tree.proofs.NameLaws.{distinct_left, distinct_apart}
 use Rattle.mm_present.specs.Comparing.{Named, compared, compared_rows, digit_at, first_missing, first_outside, in_order, present_rows, verdict_of, verdict_of_rows}
 use Rattle.mm_present.specs.Ordering.{IsPlaceBelow}
-use Rattle.mm_present.proofs.RangeLaws.{map_each, map_of_map}
+use Rattle.mm_present.proofs.RangeLaws.{map_each}
 use Rattle.mm_present.proofs.TreeRows.{digit_of}
 use Rattle.mm_present.specs.declared.verdict.Verdict.{Verdict}
 use Rattle.mm_present.specs.declared.verdict.Verdict.TheVariants as verdict
 
 -- ---- names
 
-pub at_place : (names : List (List ℕ)) (k : ℕ) (name : List ℕ) → slice_get names k ≡ Some name → name ≡ get_or names k []
-at_place [] k name e = cc
-at_place (x ∷ names) zero name e = some_same x name e
-  where
-    some_same : (x y : List ℕ) → Some x ≡ Some y → y ≡ x
-    some_same x y e = cc
-at_place (x ∷ names) (suc k) name e = at_place names k name e
-
-pub same_default : {X : Type 0} (xs : List X) (k : ℕ) (d e : X) → k < length xs → get_or xs k d ≡ get_or xs k e
-same_default [] k d e l = absurd (omega arith)
-same_default (x ∷ xs) zero d e l = refl
-same_default (x ∷ xs) (suc k) d e l = same_default xs k d e (omega arith)
-
-opposite : (b : Bool) → b ≡ true → b ≡ false → ⊥
-opposite true p q = cc
-opposite false p q = cc
-
-not_there : (b : Bool) → (b ≡ true → ⊥) → b ≡ false
-not_there true h = absurd (h refl)
-not_there false h = refl
-
 -- a set of the first names, with one more
 pub set_next : (names set new : List (List ℕ)) (k : ℕ) (name : List ℕ) → IsDistinct bytes_eq names → k < length names → set ≡ take k names →
     slice_get names k ≡ Some name → new ≡ insert_key (eq-value).it set name → new ≡ take (k + 1) names
 set_next names set new k name d l es en ei =
-    let at = at_place names k name en in
-    let more : take (k + 1) names ≡ take k names ++ name ∷ [] = take_more names k [] l ∙ ap (λ x. take k names ++ x ∷ []) (sym at) in
+    let at = get_or_from_slice_get names k name [] en in
+    let more : take (k + 1) names ≡ take k names ++ name ∷ [] = take_more names k [] l ∙ ap (λ x. take k names ++ x ∷ []) at in
     let front : IsDistinct bytes_eq (take (k + 1) names) =
     distinct_left (take (k + 1) names) (drop (k + 1) names) (subst (λ xs. IsDistinct bytes_eq xs) (sym (take-append-drop (k + 1) names)) d) in
     let apart = distinct_apart (take k names) (name ∷ []) (subst (λ xs. IsDistinct bytes_eq xs) more front) in
-    let one : is_one_of name (name ∷ []) ≡ true = ap (λ b. b || false) (name_same name) in
+    let one : is_one_of name (name ∷ []) ≡ true = ap (λ b. b || false) (bytes_same name) in
     let absent : is_one_of name (take k names) ≡ false =
-    not_there (is_one_of name (take k names)) (λ t. opposite (is_one_of name (name ∷ [])) one (apart name t)) in
+    false_from_ne_true (is_one_of name (take k names)) (λ t. both_ways (is_one_of name (name ∷ [])) (apart name t) one) in
     ei ∙ ap (λ xs. insert_key (eq-value).it xs name) es ∙ insert_new (take k names) name absent ∙ sym more
 
 missing_step : (names others : List (List ℕ)) (k : ℕ) (name : List ℕ) (b : Bool) → k < length names → slice_get names k ≡ Some name →
     b ≡ list_any ((eq-value).it name) others →
     first_missing (drop k names) others ≡ cond (not b) (Some name) (first_missing (drop (k + 1) names) others)
 missing_step names others k name b l en eb =
-    let at = at_place names k name en in
+    let at = get_or_from_slice_get names k name [] en in
     let p : List ℕ → Bool = λ n. not (is_one_of n others) in
-    ap (find p) (drop_more names k [] l ∙ ap (λ x. x ∷ drop (k + 1) names) (sym at))
+    ap (find p) (drop_more names k [] l ∙ ap (λ x. x ∷ drop (k + 1) names) at)
     ∙ ap (λ t. cond (not t) (Some name) (find p (drop (k + 1) names))) (sym (eb ∙ any_name name others))
 
 pub missing_found : (names others : List (List ℕ)) (k : ℕ) (name : List ℕ) (b : Bool) → k < length names → slice_get names k ≡ Some name →
@@ -102,29 +83,16 @@ none_missing (y ∷ names) others e x t = go (is_one_of y others) refl (bytes_eq
         (first_missing names others ≡ None → (x : List ℕ) → is_one_of x names ≡ true → is_one_of x others ≡ true) → is_one_of x others ≡ true
     go false p s q more =
         let found : Some y ≡ None = sym (ap (λ c. cond (not c) (Some y) (first_missing names others)) p) ∙ e in cc
-    go true p true q more = subst (λ z. is_one_of z others ≡ true) (sym (same_name x y q)) p
+    go true p true q more = subst (λ z. is_one_of z others ≡ true) (sym (same_bytes x y q)) p
     go true p false q more =
         more (sym (ap (λ c. cond (not c) (Some y) (first_missing names others)) p) ∙ e) x (sym (ap (λ c. c || is_one_of x names) q) ∙ t)
-
-bytes_equivalence : IsEquivalence bytes_eq
-bytes_equivalence = record {
-  refl = name_same;
-  symm = λ x y. either x y (bytes_eq x y) refl (bytes_eq y x) refl;
-  congr = λ x y z e. ap (λ w. bytes_eq w z) (same_name x y e);
-}
-  where
-    either : (x y : List ℕ) (a : Bool) → bytes_eq x y ≡ a → (b : Bool) → bytes_eq y x ≡ b → bytes_eq x y ≡ bytes_eq y x
-    either x y true p true q = p ∙ sym q
-    either x y false p false q = p ∙ sym q
-    either x y true p false q = absurd (opposite (bytes_eq y x) (subst (λ z. bytes_eq z x ≡ true) (same_name x y p) (name_same x)) q)
-    either x y false p true q = absurd (opposite (bytes_eq x y) (subst (λ z. bytes_eq z y ≡ true) (same_name y x q) (name_same y)) p)
 
 -- where the names of neither list are missing in the other, both are as long
 pub as_many : (names others : List (List ℕ)) → IsDistinct bytes_eq names → IsDistinct bytes_eq others → first_missing names others ≡ None →
     first_missing others names ≡ None → length names ≡ length others
 as_many names others d e m n =
-    let up = length-le_from_is_member bytes_equivalence names others d (none_missing names others m) in
-    let down = length-le_from_is_member bytes_equivalence others names e (none_missing others names n) in
+    let up = length-le_from_is_member nat_list_eq_equiv names others d (none_missing names others m) in
+    let down = length-le_from_is_member nat_list_eq_equiv others names e (none_missing others names n) in
     omega arith
 
 -- ---- rows in another order
@@ -168,7 +136,7 @@ position_found p xs i d l t f =
     let at = position_or_len_is p xs i d (omega arith) f (λ _. t) in
     sym (ap (λ n. cond (nat_lt n (length xs)) (Some n) None) at ∙ ap (λ b. cond b (Some i) None) (lt-ltb i (length xs) l))
 
-position_none : {X : Type 0} (p : X → Bool) (xs : List X) (d : X) → ((k : ℕ) → k < length xs → p (get_or xs k d) ≡ false) → None ≡ position p xs
+pub position_none : {X : Type 0} (p : X → Bool) (xs : List X) (d : X) → ((k : ℕ) → k < length xs → p (get_or xs k d) ≡ false) → None ≡ position p xs
 position_none p xs d f =
     let at = position_or_len_is p xs (length xs) d (omega arith) f (λ l. absurd (omega arith)) in
     let past : length xs ≤ length xs = omega arith in
@@ -181,7 +149,7 @@ inside_true f n others row h hr p = ap not ((is_in_span_decides f n others row h
 outside_true : (f : Field) (n : ℕ) (others : List (List ℕ)) (row : List ℕ) → AreVectors f n others → IsVector f n row → (InSpan f n others row → ⊥) →
     not (is_in_span f n others row) ≡ true
 outside_true f n others row h hr p =
-    ap not (not_there (is_in_span f n others row) (λ t. p ((is_in_span_decides f n others row h hr).0 t)))
+    ap not (false_from_ne_true (is_in_span f n others row) (λ t. p ((is_in_span_decides f n others row h hr).0 t)))
 
 -- the first row outside a row space, by other rows of this space
 pub outside_is : (f : Field) (n : ℕ) (rows others space : List (List ℕ)) (found : Option ℕ) → AreVectors f n rows → AreVectors f n others →
@@ -238,7 +206,7 @@ element_missing f given tree name e g =
 ordered_rows : (names others : List (List ℕ)) (rows : List (List ℕ)) →
     map (λ row. map (digit_at row) (map (λ name. position (bytes_eq name) names) others)) rows ≡ map (in_order names others) rows
 ordered_rows names others rows =
-    map_each _ _ rows (λ row. map_of_map (digit_at row) (λ name. position (bytes_eq name) names) others)
+    map_each _ _ rows (λ row. map-map (digit_at row) (λ name. position (bytes_eq name) names) others)
 
 pub same_elements : (f : Field) (given : Named) (tree : Tree) (places : List (Option ℕ)) (ordered present : MatrixValue) (v : Verdict) →
     IsDistinct bytes_eq given.names → IsDistinct bytes_eq (element_names tree) → first_missing given.names (element_names tree) ≡ None →

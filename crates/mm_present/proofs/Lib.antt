@@ -3,9 +3,9 @@ mod SideLaws
 mod GrowLaws
 mod SolveLaws
 mod RangeLaws
-mod TreeRows
+pub mod TreeRows
 mod NodeLaws
-mod NameLaws
+pub mod NameLaws
 mod StackLaws
-mod CompareLaws
+pub mod CompareLaws
 mod RankLaws

@@ -1,5 +1,6 @@
 -- The names of the elements of a tree.
-use Rattle.std.proofs.Common.{ℕ, ◌+◌, ◌≤◌, ◌≡◌, arith, ◌||◌, Bool, true, false, List, [], ◌∷◌, length, refl, sym, ap, ap₂, ◌∙◌, length-append, Option, Some, None}
+use Rattle.std.proofs.Common.{◌+◌, ◌≤◌, ◌≡◌, arith, [], ◌∷◌, length, refl, ap, ap₂, ◌∙◌, length-append, Option, Some, None}
+use Rattle.std.proofs.lemmas.Bool.{false_from_ne_true, both_ways}
 use Rattle.std.specs.List.{IsDistinct}
 use Rattle.std.specs.Str.{bytes_eq}
 use Rattle.mm_logic.specs.Tree as shapes
@@ -8,7 +9,8 @@ use Rattle.mm_tree.specs.NamedTree.Tree.{Elem, Void, Join}
 use Rattle.mm_tree.specs.Nodes.{named_leaf}
 use Rattle.mm_tree.specs.declared.node.Item.{Item}
 use Rattle.mm_tree.specs.declared.node.Leaf as leaves
-use Rattle.mm_tree.proofs.NameLaws.{one_of_append, distinct_left, distinct_right, distinct_apart, distinct_append}
+use Rattle.mm_tree.proofs.NameLaws.{distinct_left, distinct_right, distinct_apart, distinct_append}
+use Rattle.mm_tree.proofs.TreeLaws.{element_is_leaf}
 
 pub element_name : (l : leaves.Leaf) (item : Item) → l.item ≡ Some item → element_names (named_leaf l) ≡ l.name ∷ []
 unfolding element_names
@@ -36,30 +38,6 @@ few_elements (Join name op l r) =
     let g = length-append (leaf_names l) (leaf_names r) in
     omega arith
 
-either : (a b c d : Bool) → (a ≡ true → c ≡ true) → (b ≡ true → d ≡ true) → (a || b) ≡ true → (c || d) ≡ true
-either true b true d h k e = refl
-either true b false d h k e = let f : false ≡ true = h refl in cc
-either false b true d h k e = refl
-either false b false d h k e = k e
-
--- an element is a leaf
-element_is_leaf : (T : Tree) (x : List ℕ) → is_one_of x (element_names T) ≡ true → is_one_of x (leaf_names T) ≡ true
-unfolding element_names leaf_names
-element_is_leaf (Elem name vec weight) x e = e
-element_is_leaf (Void name t) x e = cc
-element_is_leaf (Join name op l r) x e =
-    one_of_append x (leaf_names l) (leaf_names r)
-    ∙ either (is_one_of x (element_names l)) (is_one_of x (element_names r)) (is_one_of x (leaf_names l)) (is_one_of x (leaf_names r))
-    (element_is_leaf l x) (element_is_leaf r x) (sym (one_of_append x (element_names l) (element_names r)) ∙ e)
-
-not_true : (b : Bool) → (b ≡ true → ⊥) → b ≡ false
-not_true true h = absurd (h refl)
-not_true false h = refl
-
-clash : {P : Type 0} (b : Bool) → b ≡ true → b ≡ false → P
-clash true p q = cc
-clash false p q = cc
-
 -- the names of the elements of a tree are different
 pub different_elements : (T : Tree) → IsDistinct bytes_eq (leaf_names T) → IsDistinct bytes_eq (element_names T)
 unfolding element_names leaf_names IsDistinct
@@ -69,5 +47,5 @@ different_elements (Join name op l r) d =
     let apart = distinct_apart (leaf_names l) (leaf_names r) d in
     distinct_append (element_names l) (element_names r)
     (different_elements l (distinct_left (leaf_names l) (leaf_names r) d)) (different_elements r (distinct_right (leaf_names l) (leaf_names r) d))
-    (λ x e. not_true (is_one_of x (element_names r)) (λ f.
-    clash (is_one_of x (leaf_names r)) (element_is_leaf r x f) (apart x (element_is_leaf l x e))))
+    (λ x e. false_from_ne_true (is_one_of x (element_names r)) (λ f.
+    both_ways (is_one_of x (leaf_names r)) (apart x (element_is_leaf x l e)) (element_is_leaf x r f)))

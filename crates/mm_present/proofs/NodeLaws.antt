@@ -1,6 +1,6 @@
 -- What is collected at a node, by its shape.
 use Rattle.std.proofs.Common.{ℕ, ◌+◌, ◌-◌, ◌≡◌, Ok, Err, Option, Some, None, List, ◌++◌, map, reverse, refl, sym, ap, ap₂, subst, ◌∙◌, arith, append-nil, Box, Global}
-use Rattle.std.specs.Prelude.{IfOk, OnOk}
+use Rattle.std.specs.Prelude.{OnOk}
 use Rattle.std.specs.List.{range_with_len}
 use Rattle.std.specs.declared.result.Result.{Result}
 use Rattle.mm_field.specs.declared.Field.{Field}
@@ -18,14 +18,6 @@ use Rattle.mm_tree.specs.declared.node.Node.TheViews as views
 use Rattle.mm_tree.proofs.Walks.{named_of_leaf, named_join}
 use Rattle.mm_present.specs.Joining.{ArePart, widened, placed_rows, joined_row}
 use Rattle.mm_present.proofs.TreeRows.{part, boundary_of_join, collected_join, boundary_rows_are, length-boundary_rows, none_placed}
-
-pub if_ok : {A E : Type 0} (P Q : A → Type 0) (r : Result A E) → ((a : A) → P a → Q a) → IfOk r P → IfOk r Q
-if_ok P Q (Ok a) h p = h a p
-if_ok P Q (Err e) h p = tt
-
-pub on_ok : {A E : Type 0} (P Q : Type 0) (r : Result A E) → (P → Q) → OnOk r P → OnOk r Q
-on_ok P Q (Ok a) h p = h p
-on_ok P Q (Err e) h p = tt
 
 pub always_ok : {A E : Type 0} (P : Type 0) (r : Result A E) → P → OnOk r P
 always_ok P (Ok a) p = p

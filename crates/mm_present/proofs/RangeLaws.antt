@@ -25,10 +25,6 @@ module _ {X : Type 0} where
   same_range g h a (suc n) e =
       ap₂ (λ x xs. x ∷ xs) (e a (omega arith) (omega arith)) (same_range g h (a + 1) n (λ i l m. e i (omega arith) (omega arith)))
 
-pub map_of_map : {X Y Z : Type 0} (h : Y → Z) (g : X → Y) (xs : List X) → map h (map g xs) ≡ map (λ x. h (g x)) xs
-map_of_map h g [] = refl
-map_of_map h g (x ∷ xs) = ap (λ ys. h (g x) ∷ ys) (map_of_map h g xs)
-
 pub map_each : {X Y : Type 0} (h g : X → Y) (xs : List X) → ((x : X) → h x ≡ g x) → map h xs ≡ map g xs
 map_each h g [] e = refl
 map_each h g (x ∷ xs) e = ap₂ (λ y ys. y ∷ ys) (e x) (map_each h g xs e)

@@ -10,7 +10,7 @@ use Rattle.mm_field.specs.declared.Field.{Field}
 use Rattle.mm_field.specs.Digits.{plus}
 use Rattle.mm_field.specs.Vectors.{zeros, vector_sum, multiple, combination, IsVector, AreVectors, InSpan, AreIndependent}
 use Rattle.mm_field.proofs.Tables.{times_comm, one_digit}
-use Rattle.mm_field.proofs.VectorLaws.{get_or-vector_sum, get_or-multiple, length-multiple, multiple-zeros, IsVector-zeros}
+use Rattle.mm_field.proofs.VectorLaws.{multiple-zeros, IsVector-zeros, step_entry}
 use Rattle.mm_field.proofs.CombinationLaws.{first_row, other_rows, zeros_twice, combination-none, combination-zeros, InSpan-first, IsVector-combination}
 use Rattle.mm_linear.specs.Decide.{is_independent}
 use Rattle.mm_linear.specs.LeftRows.{reduced_basis}
@@ -42,11 +42,8 @@ digit_of_sum f m i (c ∷ x) (u ∷ cs) h e l =
     let hu : length u ≡ m = (first_row f m u cs h).len in
     let hs = other_rows f m u cs h in
     let rest : length (combination f m x cs) ≡ m = (IsVector-combination f m x cs hs).len in
-    let one : length (multiple f c u) ≡ length u = length-multiple f c u in
-    get_or-vector_sum f (multiple f c u) (combination f m x cs) i (one ∙ hu ∙ sym rest) (subst (λ n. i < n) (sym rest) l)
-    ∙ ap₂ (plus f)
-    (get_or-multiple f c u i (subst (λ n. i < n) (sym hu) l) ∙ times_comm f c (get_or u i 0))
-    (digit_of_sum f m i x cs hs (omega arith) l)
+    step_entry f m c u (combination f m x cs) i hu rest l
+    ∙ ap₂ (plus f) (times_comm f c (get_or u i 0)) (digit_of_sum f m i x cs hs (omega arith) l)
 
 abbrev pub rows_of_columns : ℕ → List (List ℕ) → List (List ℕ)
 rows_of_columns m cs = map (row_of cs) (range_with_len 0 m)

@@ -3,11 +3,12 @@ use Rattle.std.proofs.Common.{◌≡◌, ◌<◌, ◌≤◌, ℕ, suc, zero, ◌
 use Rattle.std.specs.List.{range_with_len}
 use Rattle.std.proofs.lemmas.List.{map-append, get_or_append_left, get_or-replicate, length-map, take_at}
 use Rattle.std.proofs.lemmas.List.Elements.{All-head, All-tail}
+use Rattle.std.proofs.lemmas.Simd.{map-map}
 use Rattle.mm_field.specs.declared.Field.{Field}
 use Rattle.mm_field.specs.Digits.{plus, times}
 use Rattle.mm_field.specs.Vectors.{zeros, vector_sum, multiple, combination, through, IsVector, AreVectors}
 use Rattle.mm_field.proofs.Tables.{times_comm}
-use Rattle.mm_field.proofs.VectorLaws.{get_or-vector_sum, get_or-multiple, length-multiple}
+use Rattle.mm_field.proofs.VectorLaws.{step_entry}
 use Rattle.mm_field.proofs.CombinationLaws.{IsVector-combination, combination-through, first_row, other_rows}
 use Rattle.mm_field.proofs.PartLaws.{AreVectors-map}
 use Rattle.mm_linear.specs.Coordinates.{coordinates, in_coordinates, IsBasis}
@@ -18,16 +19,13 @@ use Rattle.mm_linear.proofs.BasisLaws.{completed_is_basis}
 use Rattle.mm_logic.specs.Operator.{row_length}
 use Rattle.mm_logic.specs.PresentMatrix.{internal, columns}
 use Rattle.mm_laws.proofs.MatrixLemmas.{length-columns, columns_are}
+use Rattle.mm_laws.proofs.RowLemmas.{map-zero}
 use Rattle.mm_present.specs.RowForm.{row_of, first_rows, JoinRowsAreCombined}
 
 -- two functions that agree at each member have the same list of values
 map_same : {X : Type 0} (P : X → Type 0) (g h : X → ℕ) (xs : List X) → All P xs → ((x : X) → P x → g x ≡ h x) → map g xs ≡ map h xs
 map_same P g h [] hs e = refl
 map_same P g h (x ∷ xs) hs e = ap₂ (λ a b. a ∷ b) (e x (All-head P x xs hs)) (map_same P g h xs (All-tail P x xs hs) e)
-
-all_zero : (cs : List (List ℕ)) → map (λ u. 0) cs ≡ zeros (length cs)
-all_zero [] = refl
-all_zero (u ∷ cs) = ap (λ v. 0 ∷ v) (all_zero cs)
 
 sum_of_values : (f : Field) (a : ℕ) (g h : List ℕ → ℕ) (cs : List (List ℕ)) →
     vector_sum f (multiple f a (map g cs)) (map h cs) ≡ map (λ u. plus f (times f a (g u)) (h u)) cs
@@ -47,7 +45,7 @@ by_rows : (f : Field) (r k w j : ℕ) (m cs : List (List ℕ)) → AreVectors f 
     map (λ u. get_or (combination f r (take (length m) (drop j u)) m) k 0) cs
     ≡ combination f (length cs) (row_of m k) (map (row_of cs) (range_with_len j (length m)))
 by_rows f r k w j [] cs hm hc lk lw =
-    map_same (λ u. IsVector f w u) (λ u. get_or (zeros r) k 0) (λ u. 0) cs hc (λ u hu. get_or-replicate r k 0 0 lk) ∙ all_zero cs
+    map_same (λ u. IsVector f w u) (λ u. get_or (zeros r) k 0) (λ u. 0) cs hc (λ u hu. get_or-replicate r k 0 0 lk) ∙ map-zero cs
 by_rows f r k w j (v ∷ m) cs hm hc lk lw =
     let hv : length v ≡ r = (first_row f r v m hm).len in
     let rest : List ℕ → ℕ = λ u. get_or (combination f r (take (length m) (drop (j + 1) u)) m) k 0 in
@@ -56,11 +54,9 @@ by_rows f r k w j (v ∷ m) cs hm hc lk lw =
     let long : length u ≡ w = hu.len in
     let made : length (combination f r (take (length m) (drop (j + 1) u)) m) ≡ r =
     (IsVector-combination f r (take (length m) (drop (j + 1) u)) m (other_rows f r v m hm)).len in
-    let one : length (multiple f (get_or u j 0) v) ≡ length v = length-multiple f (get_or u j 0) v in
     ap (λ (ds : List ℕ). get_or (combination f r ds (v ∷ m)) k 0) (take-next (length m) j u (omega arith))
-    ∙ get_or-vector_sum f (multiple f (get_or u j 0) v) (combination f r (take (length m) (drop (j + 1) u)) m) k
-    (one ∙ hv ∙ sym made) (subst (λ n. k < n) (sym made) lk)
-    ∙ ap (λ d. plus f d (rest u)) (get_or-multiple f (get_or u j 0) v k (subst (λ n. k < n) (sym hv) lk) ∙ times_comm f (get_or u j 0) (get_or v k 0)) in
+    ∙ step_entry f r (get_or u j 0) v (combination f r (take (length m) (drop (j + 1) u)) m) k hv made lk
+    ∙ ap (λ d. plus f d (rest u)) (times_comm f (get_or u j 0) (get_or v k 0)) in
     map_same (λ u. IsVector f w u) whole (λ u. plus f (times f (get_or v k 0) (get_or u j 0)) (rest u)) cs hc each
     ∙ sym (sum_of_values f (get_or v k 0) (λ u. get_or u j 0) rest cs)
     ∙ ap (λ row. vector_sum f (multiple f (get_or v k 0) (row_of cs j)) row)
@@ -112,10 +108,6 @@ side_row f r t m k basis g cs tail hb hg hl hc lk =
     ≡ combination f (length cs) (row_of (map into g) k) (map (row_of cs) (range_with_len 0 n)))
     long
     (by_rows f r k (t + m) 0 (map into g) cs made hc lk (omega arith))
-
-map-map : {X Y Z : Type 0} (g : Y → Z) (h : X → Y) (xs : List X) → map g (map h xs) ≡ map (λ x. g (h x)) xs
-map-map g h [] = refl
-map-map g h (x ∷ xs) = ap (λ z. g (h x) ∷ z) (map-map g h xs)
 
 pub join_rows_are_combined : JoinRowsAreCombined
 join_rows_are_combined f op l r ok k lk =

@@ -1,14 +1,12 @@
 -- Rows of a matrix, each times its coefficient, added one by one from the last to the first; and the rows of a join.
-use Rattle.std.proofs.Common.{ℕ, suc, ◌+◌, ◌-◌, ◌<◌, ◌≤◌, ◌≡◌, List, [], ◌∷◌, ◌++◌, length, map, reverse, get_or, take, drop, sym, ap, ap₂, subst, ◌∙◌, arith, append_assoc, length-append}
+use Rattle.std.proofs.Common.{ℕ, suc, ◌+◌, ◌-◌, ◌<◌, ◌≤◌, ◌≡◌, List, [], ◌∷◌, ◌++◌, length, map, reverse, take, drop, sym, ap, ap₂, subst, ◌∙◌, arith, append_assoc, length-append}
 use Rattle.std.specs.List.{range_with_len}
 use Rattle.std.proofs.Math.Seq.{take-append_seam, drop-append-add}
-use Rattle.std.proofs.lemmas.List.{drop_more, drop_all, drop-replicate, length-map, length-replicate, reverse-append, take-replicate}
+use Rattle.std.proofs.lemmas.List.{drop-replicate, length-map, length-replicate, reverse-append, take-replicate}
 use Rattle.mm_field.specs.declared.Field.{Field}
-use Rattle.mm_field.specs.Vectors.{zeros, vector_sum, multiple, combination, IsVector, AreVectors}
-use Rattle.mm_field.proofs.VectorLaws.{vector_sum_comm}
+use Rattle.mm_field.specs.Vectors.{zeros, combination, IsVector, AreVectors}
 use Rattle.mm_field.proofs.CombinationLaws.{IsVector-combination}
 use Rattle.mm_field.proofs.PartLaws.{IsVector-append}
-use Rattle.mm_linear.proofs.SumLaws.{next_rows}
 use Rattle.mm_logic.specs.Operator.{row_length}
 use Rattle.mm_logic.specs.PresentMatrix.{column_digits}
 use Rattle.mm_matrix.specs.MatrixValue.{MatrixValue}
@@ -16,20 +14,6 @@ use Rattle.mm_ops.specs.OpValue.{OpValue}
 use Rattle.mm_present.specs.RowForm.{row_of, in_join}
 use Rattle.mm_present.specs.Joining.{ArePart, IsSide, side_row, join_row, joined_row, widened, with_digits}
 use Rattle.mm_present.specs.declared.sides.Side.{Side}
-
-pub sum_start : (f : Field) (n t : ℕ) (b : List ℕ) (rows : List (List ℕ)) → length b ≡ t → zeros n ≡ combination f n (drop t b) (drop t rows)
-sum_start f n t b rows e = sym (ap (λ x. combination f n x (drop t rows)) (drop_all t b (omega arith)))
-
-pub sum_step : (f : Field) (n : ℕ) (b : List ℕ) (rows : List (List ℕ)) (j : ℕ) (out : List ℕ) (a : ℕ) (x new : List ℕ) → 0 < j → j ≤ length b →
-    j ≤ length rows → out ≡ combination f n (drop j b) (drop j rows) → a ≡ get_or b (j - 1) 0 → x ≡ get_or rows (j - 1) [] →
-    new ≡ vector_sum f out (multiple f a x) → new ≡ combination f n (drop (j - 1) b) (drop (j - 1) rows)
-sum_step f n b rows j out a x new p lb lr out_is a_is x_is new_is =
-    let e : j - 1 + 1 ≡ j = omega arith in
-    let next : drop (j - 1) b ≡ get_or b (j - 1) 0 ∷ drop j b = drop_more b (j - 1) 0 (omega arith) ∙ ap (λ k. get_or b (j - 1) 0 ∷ drop k b) e in
-    new_is
-    ∙ vector_sum_comm f out (multiple f a x)
-    ∙ ap₂ (λ u w. vector_sum f u w) (ap₂ (λ c v. multiple f c v) a_is x_is) out_is
-    ∙ sym (ap₂ (λ cs vs. combination f n cs vs) next (next_rows rows j p lr))
 
 -- ---- the rows of a join
 

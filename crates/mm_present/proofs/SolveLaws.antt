@@ -2,9 +2,9 @@
 use Rattle.std.proofs.Common.{ℕ, zero, suc, ◌+◌, ◌-◌, ◌<◌, ◌≤◌, ◌≡◌, Bool, true, false, not, cond, filter, Option, Some, None, List, [], ◌∷◌, ◌++◌, length, get_or, take, drop, map, refl, sym, ap, ap₂, subst, ◌∙◌, arith, append_assoc, append-nil}
 use Rattle.std.specs.Prelude.{is_none, is_some, MatchOption}
 use Rattle.std.specs.List.{range_with_len}
-use Rattle.std.proofs.lemmas.List.{drop_more, drop_all, map-append}
-use Rattle.std.proofs.lemmas.List.Elements.{All-drop, filter-append}
-use Rattle.std.proofs.lemmas.List.FromFn.{get_or-map-range_with_len, map-range_with_len_more}
+use Rattle.std.proofs.lemmas.List.{drop_more, drop_all}
+use Rattle.std.proofs.lemmas.List.Elements.{All-drop}
+use Rattle.std.proofs.lemmas.List.FromFn.{get_or-map-range_with_len}
 use Rattle.mm_field.specs.declared.Field.{Field}
 use Rattle.mm_field.specs.Digits.{order}
 use Rattle.mm_field.specs.Vectors.{zeros, AreDigits, IsVector, AreVectors, InSpan, IsWithin, SameRowSpace}
@@ -12,7 +12,7 @@ use Rattle.mm_field.proofs.CombinationLaws.{InSpan-within}
 use Rattle.mm_linear.specs.Coordinates.{unit, is_pivot, less, digit_below, coordinates}
 use Rattle.mm_linear.specs.Decide.{is_in_span}
 use Rattle.mm_linear.specs.LeftRows.{reduced_basis}
-use Rattle.mm_linear.proofs.BasisLaws.{completed_is_basis, IsVector-unit}
+use Rattle.mm_linear.proofs.BasisLaws.{completed_is_basis, IsVector-unit, free_next}
 use Rattle.mm_linear.proofs.CoordinateLaws.{IsVector-less}
 use Rattle.mm_linear.proofs.LeftRowsLaws.{reduced_basis_is}
 use Rattle.mm_linear.proofs.MeetTest.{is_in_span_decides}
@@ -167,30 +167,6 @@ later_at op b i d ok h l =
     ∙ ap₂ (λ (f : Field) (n : ℕ). record { f = f; cols = n; rows = reduced_basis f n (drop (i + 1) b.rows.rows) }) e.0 e.1
 
 -- ---- the basis
-
-one_more : (k : ℕ) → range_with_len 0 (k + 1) ≡ range_with_len 0 k ++ (k ∷ [])
-one_more k = sym (same (range_with_len 0 (k + 1))) ∙ map-range_with_len_more (λ x. x) 0 k k (omega arith) ∙ ap (λ xs. xs ++ (k ∷ [])) (same (range_with_len 0 k))
-  where
-    same : (xs : List ℕ) → map (λ x. x) xs ≡ xs
-    same [] = refl
-    same (x ∷ xs) = ap (λ ys. x ∷ ys) (same xs)
-
--- the unit vectors at the free columns up to k + 1 are those up to k, and perhaps one more
-pub free_next : (f : Field) (r k : ℕ) (g : List (List ℕ)) (b : Bool) → b ≡ is_pivot f g k →
-    map (unit r) (filter (λ j. not (is_pivot f g j)) (range_with_len 0 (k + 1)))
-    ≡ map (unit r) (filter (λ j. not (is_pivot f g j)) (range_with_len 0 k)) ++ cond (not b) (unit r k ∷ []) []
-free_next f r k g b e =
-    ap (λ xs. map (unit r) (filter q xs)) (one_more k)
-    ∙ ap (map (unit r)) (filter-append q (range_with_len 0 k) (k ∷ []))
-    ∙ map-append (unit r) (filter q (range_with_len 0 k)) (filter q (k ∷ []))
-    ∙ ap (λ xs. map (unit r) (filter q (range_with_len 0 k)) ++ xs) (by (is_pivot f g k) ∙ ap (λ c. cond (not c) (unit r k ∷ []) []) (sym e))
-  where
-    q : ℕ → Bool
-    q = λ j. not (is_pivot f g j)
-
-    by : (c : Bool) → map (unit r) (cond (not c) (k ∷ []) []) ≡ cond (not c) (unit r k ∷ []) []
-    by true = refl
-    by false = refl
 
 -- the rows with the unit vectors at the free columns up to k
 abbrev pub with_free : (f : Field) (r k : ℕ) (g : List (List ℕ)) → List (List ℕ)

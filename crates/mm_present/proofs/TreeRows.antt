@@ -4,6 +4,7 @@ use Rattle.std.specs.List.{range_with_len}
 use Rattle.std.proofs.lemmas.List.{map-append, length-map, reverse-append, reverse-reverse}
 use Rattle.std.proofs.lemmas.List.Elements.{All-nil, All-cons, All-append}
 use Rattle.std.proofs.lemmas.List.FromFn.{length-map-range_with_len}
+use Rattle.std.proofs.lemmas.Simd.{map-map}
 use Rattle.mm_field.specs.declared.Field.{Field}
 use Rattle.mm_field.specs.Digits.{order}
 use Rattle.mm_field.specs.Vectors.{zeros, IsVector, AreVectors}
@@ -19,7 +20,7 @@ use Rattle.mm_matrix.specs.MatrixValue.{MatrixValue}
 use Rattle.mm_present.specs.RowForm.{row_of}
 use Rattle.mm_present.specs.Joining.{widened, boundary_rows, internal_rows, placed_rows, joined_row}
 use Rattle.mm_present.proofs.GrowLaws.{matrix}
-use Rattle.mm_present.proofs.RangeLaws.{split_range, shift_range, same_range, map_of_map, map_each}
+use Rattle.mm_present.proofs.RangeLaws.{split_range, shift_range, same_range, map_each}
 use Rattle.mm_present.proofs.RowFormLaws.{join_rows_are_combined}
 
 -- ---- rows are vectors
@@ -40,7 +41,7 @@ row_vector f n k cs h = record {
     go (u ∷ cs) h =
         All-cons (λ d. d < order f) _ _ (digit_of f u k (h 0 [] (omega arith)).digits) (go cs (λ i d l. h (suc i) d (omega arith)))
 
-rows_are : (f : Field) (T : Tree) (h : ℕ → ℕ) (a n : ℕ) → IsValid f T → AreVectors f (size T) (map (λ i. matrix_row f T (h i)) (range_with_len a n))
+pub rows_are : (f : Field) (T : Tree) (h : ℕ → ℕ) (a n : ℕ) → IsValid f T → AreVectors f (size T) (map (λ i. matrix_row f T (h i)) (range_with_len a n))
 rows_are f T h a zero ok = All-nil (λ v. IsVector f (size T) v)
 rows_are f T h a (suc n) ok =
     All-cons (λ v. IsVector f (size T) v) _ _
@@ -113,10 +114,10 @@ internal_of_join f op l r ok =
     ∙ split_range (λ i. row (c + i)) 0 ml mr
     ∙ ap₂ (λ a b. a ++ b)
     (same_range (λ i. row (c + i)) (λ i. internal_row f l i ++ zeros (size r)) 0 ml (λ i low high. (internal-rows f op l r ok i).0 (omega arith))
-    ∙ sym (map_of_map (λ v. v ++ zeros (size r)) (internal_row f l) (range_with_len 0 ml)))
+    ∙ sym (map-map (λ v. v ++ zeros (size r)) (internal_row f l) (range_with_len 0 ml)))
     (ap (λ i. map (λ j. row (c + j)) (range_with_len i mr)) zero_m ∙ shift_range (λ i. row (c + i)) ml 0 mr
     ∙ same_range (λ i. row (c + (ml + i))) (λ i. zeros (size l) ++ internal_row f r i) 0 mr (λ i low high. (internal-rows f op l r ok i).1 (omega arith))
-    ∙ sym (map_of_map (λ v. zeros (size l) ++ v) (internal_row f r) (range_with_len 0 mr))))
+    ∙ sym (map-map (λ v. zeros (size l) ++ v) (internal_row f r) (range_with_len 0 mr))))
 
 widened_left : (before s after : ℕ) (row : List ℕ) → widened before after (row ++ zeros s) ≡ widened before (s + after) row
 widened_left before s after row = ap (λ x. zeros before ++ x) (append_assoc row (zeros s) (zeros after) ∙ ap (λ x. row ++ x) (zeros-append s after))
@@ -138,8 +139,8 @@ placed_of_join f op l r before after ok =
     ∙ ap (λ x. map w own ++ x)
     (map-append w (map (λ row. row ++ zeros (size r)) (internal_rows f l)) (map (λ row. zeros (size l) ++ row) (internal_rows f r))
     ∙ ap₂ (λ a b. a ++ b)
-    (map_of_map w (λ row. row ++ zeros (size r)) (internal_rows f l) ∙ map_each _ _ (internal_rows f l) (widened_left before (size r) after))
-    (map_of_map w (λ row. zeros (size l) ++ row) (internal_rows f r) ∙ map_each _ _ (internal_rows f r) (widened_right before (size l) after)))
+    (map-map w (λ row. row ++ zeros (size r)) (internal_rows f l) ∙ map_each _ _ (internal_rows f l) (widened_left before (size r) after))
+    (map-map w (λ row. zeros (size l) ++ row) (internal_rows f r) ∙ map_each _ _ (internal_rows f r) (widened_right before (size l) after)))
 
 -- what is collected at a join, the last row first
 pub collected_join : (f : Field) (op : Op) (l r : Tree) (before after : ℕ) (old second first new : List (List ℕ)) → IsValid f (Join op l r) →

@@ -3,7 +3,7 @@ mod GenTextLaws
 mod RowLaws
 pub mod KeptLaws
 mod SumSteps
-mod Gathering
+pub mod Gathering
 mod PreimageLaws
 mod HeadLaws
 mod EqualLaws

@@ -3,14 +3,13 @@ use Rattle.std.proofs.Common.{ℕ, ◌+◌, ◌*◌, ◌^◌, ◌<◌, ◌≤◌
 use Rattle.std.specs.Prelude.{All}
 use Rattle.std.proofs.lemmas.List.Elements.{All-weaker, All-nil}
 use Rattle.mm_field.specs.declared.Field.{Field}
-use Rattle.mm_field.specs.Digits.{order}
 use Rattle.mm_field.specs.Vectors.{IsVector, AreVectors}
-use Rattle.mm_field.specs.declared.Field.TheVariants.{Two, Three, Four, Five}
+use Rattle.mm_field.proofs.Tables.{order-most}
 use Rattle.mm_linear.specs.Echelons.{entry, IsEchelon}
 use Rattle.mm_linear.specs.LeftRows.{turned_rows, reduced_basis}
 use Rattle.mm_linear.proofs.HeadLaws.{IsEchelon-head}
 use Rattle.mm_linear.proofs.LeftRowsLaws.{AreVectors-turned, reduced_basis_is}
-use Rattle.mm_linear.proofs.LeftUnique.{basis_of_reduced}
+use Rattle.mm_linear.proofs.LeftUnique.{basis_of_none}
 use Rattle.mm_space.specs.SpaceValue.{corner}
 use Rattle.mm_space.specs.KeyValue.{KeyValue, IsKeyOf, number_onto, joined_rows, packed, unpacked, code_of}
 use Rattle.mm_space.specs.KeyView.{IsReduced, IsPacked}
@@ -55,12 +54,6 @@ packing_zero t rows j packed rank lj lt h e =
       few = omega arith;
       room = h.room;
     }
-
-order-most : (f : Field) → order f ≤ 5
-order-most Two = omega arith
-order-most Three = omega arith
-order-most Four = omega arith
-order-most Five = omega arith
 
 pub small_digits : (f : Field) (n : ℕ) (rows : List (List ℕ)) → AreVectors f n rows → All (λ row. All (λ d. d < 8) row) rows
 small_digits f n rows h k d l i e m = let a = (h k d l).digits i e m in let b = order-most f in omega arith
@@ -123,9 +116,6 @@ packs_corner f t rows code rank all ec er ea =
 abbrev pub no_rows : Field → ℕ → KeyValue
 no_rows f t = record { f = f; t = t; rows = [] }
 
-no_basis : (f : Field) (t : ℕ) → reduced_basis f t [] ≡ []
-no_basis f t = basis_of_reduced f t [] [] (All-nil (λ v. IsVector f t v)) tt tt
-
 pub record IsZeroKey (f : Field) (t : ℕ) : Type 0 where
   pub reduced : IsReduced (no_rows f t)
   pub fits : Fits (no_rows f t)
@@ -133,9 +123,9 @@ pub record IsZeroKey (f : Field) (t : ℕ) : Type 0 where
 
 pub zero_key : (f : Field) (t : ℕ) → t ≤ 6 → IsZeroKey f t
 zero_key f t l = record {
-  reduced = record { narrow = l; few = omega arith; each = All-nil (λ v. IsVector f t v); basis = no_basis f t };
+  reduced = record { narrow = l; few = omega arith; each = All-nil (λ v. IsVector f t v); basis = basis_of_none f t };
   fits = record { narrow = omega arith; few = omega arith; each = All-nil (λ v. length v ≡ t); small = All-nil (λ v. All (λ d. d < 8) v) };
-  basis = record { field = refl; length = refl; each = All-nil (λ v. IsVector f t v); basis = sym (no_basis f t) };
+  basis = record { field = refl; length = refl; each = All-nil (λ v. IsVector f t v); basis = sym (basis_of_none f t) };
 }
 
 pub packs_zero : (f : Field) (t code : ℕ) → code ≡ code_of f → t + 8 * code ≡ packed (no_rows f t)

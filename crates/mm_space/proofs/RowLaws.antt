@@ -4,25 +4,21 @@ use Rattle.std.proofs.Common.{ℕ, ◌+◌, ◌-◌, ◌<◌, ◌≤◌, ◌≡�
 use Rattle.std.proofs.lemmas.Bool.{cases_lt, cases_eq}
 use Rattle.std.proofs.lemmas.List.{length-set, get_or-set_same, get_or-set_other, get_or-replicate}
 use Rattle.mm_field.specs.declared.Field.{Field}
-use Rattle.mm_field.specs.Digits.{times, negative, inverse}
+use Rattle.mm_field.specs.Digits.{negative, inverse}
 use Rattle.mm_field.specs.Vectors.{zeros, vector_sum, multiple, combination, IsVector, AreVectors, InSpan, SameRowSpace}
-use Rattle.mm_field.proofs.Tables.{times-zero, negative-times}
-use Rattle.mm_field.proofs.VectorLaws.{get_or-vector_sum, get_or-multiple, vector_sum-zeros, multiple-zeros, IsVector-vector_sum, length-multiple, add_no_multiple}
-use Rattle.mm_field.proofs.CombinationLaws.{combination-zeros, IsVector-combination}
+use Rattle.mm_field.proofs.VectorLaws.{vector_sum-zeros, multiple-zeros, IsVector-vector_sum, length-multiple, add_no_multiple}
+use Rattle.mm_field.proofs.CombinationLaws.{combination-zeros}
 use Rattle.std.proofs.lemmas.List.Elements.{All-drop}
 use Rattle.mm_linear.specs.Echelons.{entry, IsEchelon, EndsAt, ZeroFrom}
 use Rattle.mm_linear.specs.Decide.{row_for}
 use Rattle.mm_linear.specs.Eliminate.{residue, cleared, inserted}
 use Rattle.mm_space.specs.Insertion.{IsInserted}
-use Rattle.mm_linear.proofs.EchelonLaws.{combination_entry_zero, row_at, entry_of_zero_row}
-use Rattle.mm_linear.proofs.InsertLaws.{sum_of_zeros, new_row, scaled_residue, inserted_span, IsEchelon-inserted, no_residue}
-use Rattle.mm_linear.proofs.SpaceLaws.{inserted_within, same_span_inside, contains_decides}
+use Rattle.mm_linear.proofs.EchelonLaws.{row_at, entry_of_zero_row, negative-zero}
+use Rattle.mm_linear.proofs.InsertLaws.{new_row, scaled_residue, inserted_span, IsEchelon-inserted, no_residue}
+use Rattle.mm_linear.proofs.SpaceLaws.{inserted_within, same_span_inside, contains_decides, residue_past}
 use Rattle.mm_linear.proofs.StepLaws.{reduced_step, map_from_entries}
 use Rattle.mm_linear.proofs.SumLaws.{zero_row}
 use Rattle.mm_linear.proofs.SubspaceLaws.{drop_of_end}
-
-negative_zero : (f : Field) → negative f 0 ≡ 0
-negative_zero f = negative-times f 0 ∙ times-zero f (negative f 1)
 
 -- ---- reduction: after the rows before j, out is what is left of v
 
@@ -92,7 +88,7 @@ underway_end f n v rows j out h hv ends o = sym (reduced_stop f n v out rows j h
 pub cleared_zero : (f : Field) (n p : ℕ) (w row : List ℕ) → IsVector f n w → IsVector f n row → get_or row p 0 ≡ 0 →
     row ≡ cleared f p w row
 cleared_zero f n p w row hw hr none =
-    add_no_multiple f (negative f (get_or row p 0)) w row (ap (negative f) none ∙ negative_zero f) (hw.len ∙ sym hr.len) hr.digits
+    add_no_multiple f (negative f (get_or row p 0)) w row (ap (negative f) none ∙ negative-zero f) (hw.len ∙ sym hr.len) hr.digits
 
 -- rows from place p to r are cleared, and the others have 0 at p
 pub cleared_from_rows : (f : Field) (n r p : ℕ) (w : List ℕ) (rows new : List (List ℕ)) → IsVector f n w → IsEchelon f n rows →
@@ -197,19 +193,7 @@ outside_with_residue f n p v u rows h hv u_is lp ne inside =
 -- the residue has zeros where v and the rows have
 pub residue_ends : (f : Field) (n r : ℕ) (v : List ℕ) (rows : List (List ℕ)) → IsEchelon f n rows → IsVector f n v → ZeroFrom n r rows →
     EndsAt n r v → EndsAt n r (residue f n v rows)
-residue_ends f n r v rows h hv z zv j low l =
-    let hc = IsVector-combination f n v rows h.each in
-    let lv : length v ≡ n = hv.len in
-    let lc : length (combination f n v rows) ≡ n = hc.len in
-    let lm = length-multiple f (negative f 1) (combination f n v rows) in
-    get_or-vector_sum f v (multiple f (negative f 1) (combination f n v rows)) j (lv ∙ sym lc ∙ sym lm) (omega arith)
-    ∙ sum_of_zeros f (get_or v j 0) _ (zv j low l)
-    (get_or-multiple f (negative f 1) (combination f n v rows) j (omega arith)
-    ∙ ap (times f (negative f 1))
-    (combination_entry_zero f n v rows j h.each l
-    (λ i li. ap (times f (get_or v i 0)) (z i j (let c : length rows ≡ n = h.count in omega arith) low l)
-    ∙ times-zero f (get_or v i 0)))
-    ∙ times-zero f (negative f 1))
+residue_ends f n r v rows h hv z zv j low l = residue_past f n r v rows h hv z j low l (zv j low l)
 
 -- whether there is no residue decides whether v is inside
 pub holds_decides : (f : Field) (n r : ℕ) (rows : List (List ℕ)) (v rest : List ℕ) (o : Option ℕ) (b : Bool) →

@@ -6,7 +6,7 @@ use Rattle.std.specs.Str.{bytes_eq}
 use Rattle.std.proofs.lemmas.List.Elements.{All-append, All-cons, All-nil, All-head, All-tail}
 use Rattle.indexmap.specs.IndexSet.{insert_key}
 use Rattle.mm_base.specs.contracts.name.NamePartialEq.TheImpl.{eq-value}
-use Rattle.mm_base.proofs.NameLaws.{name_eq}
+use Rattle.mm_base.proofs.NameLaws.{name_eq, same_bytes}
 use Rattle.mm_base.specs.Names.{is_name}
 use Rattle.mm_field.specs.declared.Field.{Field}
 use Rattle.mm_logic.specs.Operator.{IsValidOp}
@@ -14,7 +14,7 @@ use Rattle.mm_ops.specs.OpValue.{OpValue}
 use Rattle.mm_ops.specs.Tables.{Named, op_named}
 use Rattle.mm_tree.specs.NamedTree.Tree.{Join}
 use Rattle.mm_tree.specs.declared.node.Node.TheViews as views
-use Rattle.std.proofs.lemmas.Bool.{eqb-true, leb-false}
+use Rattle.std.proofs.lemmas.Bool.{eqb-true, leb-false, both_ways, or_from}
 use Rattle.mm_tree.specs.Building.{AreOver, names_in, leaf_fault, pair_fault, join_fault, joined}
 use Rattle.mm_tree.specs.BuilderView.{IsGrown, IsGoodLeaf, tree_of, trees_of}
 use Rattle.mm_tree.specs.NamedTree.{Tree, shape, boundary, node_names, leaf_names, weights, depth, is_one_of}
@@ -28,7 +28,6 @@ use Rattle.mm_tree.specs.declared.node.Node as nodes_of
 use Rattle.mm_logic.specs.Tree.{IsValid}
 use Rattle.mm_tree.proofs.NameLaws.{distinct_append}
 use Rattle.mm_tree.proofs.Walks.{leaf_name, leaf_node_name, leaf_depth}
-use Rattle.mm_tree.proofs.NameLaws.{same_name}
 use Rattle.mm_tree.specs.TreeView.{Stands}
 use Rattle.mm_tree.proofs.TreeLaws.{shape_boundary, join_names, stands}
 
@@ -69,7 +68,7 @@ free_parts name trees e = go (is_one_of name (names_in trees)) (nat_le most_leav
 
 -- ---- one more leaf
 
-one_name : (name : List ℕ) → is_name name ≡ true → AreNames (name ∷ [])
+pub one_name : (name : List ℕ) → is_name name ≡ true → AreNames (name ∷ [])
 one_name name formed = All-cons (λ n. is_name n ≡ true) name [] formed (All-nil (λ n. is_name n ≡ true))
 
 pub leaf_grown : (f : Field) (l : Leaf) (g : Grown) → g.node.value ≡ nodes_of.Leaf l → g.depth ≡ 0 → IsGoodLeaf f l → is_name l.name ≡ true → IsGrown f g
@@ -92,7 +91,7 @@ pub names_push : (items : List Grown) (l : Leaf) (g : Grown) (names : List (List
 names_push items l g names e n =
     ap₂ (λ (a b : List (List ℕ)). a ++ b) n (sym (ap leaf_names (tree_of_leaf l g e) ∙ leaf_name l)) ∙ ap names_in (sym (trees_push items g))
 
-alone : (x : List ℕ) → IsDistinct bytes_eq (x ∷ [])
+pub alone : (x : List ℕ) → IsDistinct bytes_eq (x ∷ [])
 unfolding IsDistinct
 alone x = (tt, tt)
 
@@ -100,20 +99,12 @@ pub distinct_push : (names : List (List ℕ)) (name : List ℕ) → IsDistinct b
     IsDistinct bytes_eq (names ++ name ∷ [])
 distinct_push names name d e = distinct_append names (name ∷ []) d (alone name) apart
   where
-    or_false : (b : Bool) → b ≡ false → (b || false) ≡ false
-    or_false true p = cc
-    or_false false p = refl
-
-    differ : (b : Bool) → b ≡ true → b ≡ false → ⊥
-    differ true p q = cc
-    differ false p q = cc
-
     apart : (x : List ℕ) → is_one_of x names ≡ true → is_one_of x (name ∷ []) ≡ false
     apart x t = go (bytes_eq x name) refl
       where
         go : (b : Bool) → bytes_eq x name ≡ b → (bytes_eq x name || false) ≡ false
-        go true q = absurd (differ (is_one_of x names) t (ap (λ (y : List ℕ). is_one_of y names) (same_name x name q) ∙ e))
-        go false q = or_false (bytes_eq x name) q
+        go true q = absurd (both_ways (is_one_of x names) (ap (λ (y : List ℕ). is_one_of y names) (same_bytes x name q) ∙ e) t)
+        go false q = or_from (bytes_eq x name) false q refl
 
 pub none_distinct : IsDistinct bytes_eq []
 unfolding IsDistinct

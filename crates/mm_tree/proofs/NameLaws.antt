@@ -3,30 +3,13 @@ use Rattle.std.proofs.Common.{ℕ, ◌≡◌, ◌||◌, ◌++◌, Bool, true, fa
 use Rattle.std.specs.List.{IsDistinct, AllByRecursion}
 use Rattle.std.specs.Str.{bytes_eq}
 use Rattle.std.proofs.lemmas.List.Folds.{list_any-append}
-use Rattle.std.proofs.lemmas.Slice.Eq.{bytes_eq-Decides}
+use Rattle.std.proofs.lemmas.Bool.{or_parts, or_right, or_left}
 use Rattle.mm_tree.specs.NamedTree.{is_one_of}
+use Rattle.mm_base.proofs.NameLaws.{same_bytes, bytes_same}
 
 -- no name is in both lists
 abbrev pub AreApart : (xs ys : List (List ℕ)) → Type 0
 AreApart xs ys = (x : List ℕ) → is_one_of x xs ≡ true → is_one_of x ys ≡ false
-
-pub same_name : (x y : List ℕ) → bytes_eq x y ≡ true → x ≡ y
-same_name x y e = (bytes_eq-Decides x y).0 e
-
-pub name_same : (x : List ℕ) → bytes_eq x x ≡ true
-name_same x = (bytes_eq-Decides x x).1 refl
-
-or_parts : (a b : Bool) → (a || b) ≡ false → (a ≡ false) × (b ≡ false)
-or_parts true b e = cc
-or_parts false b e = (refl, e)
-
-pub or_right : (a b : Bool) → b ≡ true → (a || b) ≡ true
-or_right true b e = refl
-or_right false b e = e
-
-pub or_left : (a b : Bool) → a ≡ true → (a || b) ≡ true
-or_left true b e = refl
-or_left false b e = cc
 
 pub none_equal : (x : List ℕ) (ys : List (List ℕ)) → AllByRecursion (λ y. bytes_eq x y ≡ false) ys → is_one_of x ys ≡ false
 none_equal x [] a = refl
@@ -59,7 +42,7 @@ distinct_apart (x ∷ xs) ys d n e = go (distinct_apart xs ys d.1 n) (bytes_eq n
   where
     go : (is_one_of n xs ≡ true → is_one_of n ys ≡ false) → (b : Bool) → bytes_eq n x ≡ b → is_one_of n ys ≡ false
     go more true q =
-        subst (λ (z : List ℕ). is_one_of z ys ≡ false) (sym (same_name n x q))
+        subst (λ (z : List ℕ). is_one_of z ys ≡ false) (sym (same_bytes n x q))
         (or_parts (is_one_of x xs) (is_one_of x ys) (sym (one_of_append x xs ys) ∙ none_equal x (xs ++ ys) d.0)).1
     go more false q = more (sym (ap (λ (b : Bool). b || is_one_of n xs) q) ∙ e)
 
@@ -69,6 +52,6 @@ unfolding IsDistinct
 distinct_append [] ys dx dy a = dy
 distinct_append (x ∷ xs) ys dx dy a = (
   all_unequal x (xs ++ ys) (one_of_append x xs ys
-      ∙ ap₂ (λ (p q : Bool). p || q) (none_equal x xs dx.0) (a x (or_left (bytes_eq x x) (is_one_of x xs) (name_same x)))),
+      ∙ ap₂ (λ (p q : Bool). p || q) (none_equal x xs dx.0) (a x (or_left (bytes_eq x x) (is_one_of x xs) (bytes_same x)))),
   distinct_append xs ys dx.1 dy (λ n e. a n (or_right (bytes_eq n x) (is_one_of n xs) e)),
 )

@@ -10,20 +10,14 @@ use Rattle.mm_tree.specs.Ways.{Way, going, first_way, way_to, number_at}
 use Rattle.mm_tree.specs.declared.place.Place.{Place}
 use Rattle.mm_tree.specs.declared.place.Reached.{Reached}
 use Rattle.mm_tree.specs.declared.place.Reached.TheVariants.{Absent, Above, At}
-use Rattle.mm_tree.proofs.WayLaws.{nodes_join, some_nodes, of_absent, of_above, of_at, number_left, number_right}
+use Rattle.mm_tree.proofs.WayLaws.{nodes_join, some_nodes, of_absent, of_above, of_at, number_left, number_right, number_root}
 use Rattle.mm_tree.proofs.StepLaws.{way_root, way_of_left, way_of_right}
 
 -- ---- the number of a node leads to it
 
-number_zero : (tree : Tree) → number_at tree [] ≡ 0
-unfolding number_at
-number_zero (Elem n vec weight) = refl
-number_zero (Void n t) = refl
-number_zero (Join n op left right) = refl
-
 pub number_within : (tree : Tree) (way : Way) → IsWay tree way → number_at tree way < nodes tree
 unfolding IsWay
-number_within tree [] w = let a = number_zero tree in let b = some_nodes tree in omega arith
+number_within tree [] w = let a = number_root tree in let b = some_nodes tree in omega arith
 number_within (Elem n vec weight) (step ∷ way) w = absurd w
 number_within (Void n t) (step ∷ way) w = absurd w
 number_within (Join n op left right) (true ∷ way) w =
@@ -39,7 +33,7 @@ number_within (Join n op left right) (false ∷ way) w =
 
 pub way_of_number : (tree : Tree) (way : Way) → IsWay tree way → way_of (number_at tree way) tree ≡ way
 unfolding IsWay
-way_of_number tree [] w = ap (λ (k : ℕ). way_of k tree) (number_zero tree) ∙ way_root tree
+way_of_number tree [] w = ap (λ (k : ℕ). way_of k tree) (number_root tree) ∙ way_root tree
 way_of_number (Elem n vec weight) (step ∷ way) w = absurd w
 way_of_number (Void n t) (step ∷ way) w = absurd w
 way_of_number (Join n op left right) (true ∷ way) w =

@@ -6,6 +6,7 @@ use Rattle.std.specs.declared.result.Result.{Result}
 use Rattle.indexmap.specs.IndexSet.{insert_key, insert_all}
 use Rattle.mm_base.specs.declared.failure.NoMemory.{NoMemory}
 use Rattle.mm_base.specs.contracts.name.NamePartialEq.TheImpl.{eq-value}
+use Rattle.mm_base.proofs.NameLaws.{bytes_same}
 use Rattle.mm_logic.specs.Operator.{Op}
 use Rattle.mm_tree.specs.Collecting.{IsCollected, IsOneLess}
 use Rattle.mm_tree.specs.NamedTree.{Tree, boundary, leaf_names, depth, nodes, is_one_of}
@@ -19,10 +20,10 @@ use Rattle.mm_tree.specs.declared.replace.ReplaceFault.TheVariants.{Boundary, Na
 use Rattle.mm_tree.specs.Ways.{Way, names_outside, with_node, node_at}
 use Rattle.mm_tree.specs.declared.node.Leaf.{Leaf}
 use Rattle.mm_tree.proofs.BuilderLaws.{any_name, insert_new, none_distinct}
-use Rattle.mm_tree.proofs.NameLaws.{name_same, distinct_left, distinct_right, distinct_apart, distinct_append}
-use Rattle.mm_tree.proofs.TreeLaws.{by_cases, differ, apart_back, outside_is_inside, nodes_of_leaves}
+use Rattle.mm_tree.proofs.NameLaws.{distinct_left, distinct_right, distinct_apart, distinct_append}
+use Rattle.mm_tree.proofs.TreeLaws.{by_cases, apart_back, outside_is_inside, nodes_of_leaves}
 use Rattle.mm_tree.proofs.PlaceLaws.{IsWay-root, step_left, step_right}
-use Rattle.std.proofs.lemmas.Bool.{eq-eqb, ne_eqb, le-leb, lt-leb}
+use Rattle.std.proofs.lemmas.Bool.{eq-eqb, ne_eqb, le-leb, lt-leb, both_ways}
 use Rattle.mm_tree.proofs.StepLaws.{way_root, way_of_left, way_of_right}
 use Rattle.mm_tree.proofs.Walks.{leaf_name, leaf_nodes}
 use Rattle.mm_tree.proofs.WayLaws.{nodes_join, some_nodes}
@@ -157,7 +158,7 @@ insert_distinct : (ks xs : Names) → IsDistinct bytes_eq (ks ++ xs) → insert_
 insert_distinct ks [] d = sym (append-nil ks)
 insert_distinct ks (x ∷ xs) d =
     let absent : is_one_of x ks ≡ false = by_cases (is_one_of x ks)
-    (λ t. differ (is_one_of x (x ∷ xs)) (ap (λ (b : Bool). b || is_one_of x xs) (name_same x)) (distinct_apart ks (x ∷ xs) d x t)) (λ q. q) in
+    (λ t. absurd (both_ways (is_one_of x (x ∷ xs)) (distinct_apart ks (x ∷ xs) d x t) (ap (λ (b : Bool). b || is_one_of x xs) (bytes_same x)))) (λ q. q) in
     let more = append_assoc ks (x ∷ []) xs in
     ap (λ (ns : Names). insert_all (eq-value).it ns xs) (insert_new ks x absent)
     ∙ insert_distinct (ks ++ x ∷ []) xs (subst (λ (ns : Names). IsDistinct bytes_eq ns) (sym more) d) ∙ more

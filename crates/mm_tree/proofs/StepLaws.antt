@@ -245,10 +245,6 @@ reweighted_leaf name weight l l2 found e p =
     (subst (λ (b : Bool). IsReweighted name weight (nodes_of.Leaf l) (nodes_of.Leaf (if b then reweighted weight l else l)) b) (sym e)
     (leaf_found name weight l (bytes_eq name l.name) refl))
 
-element_join : (name n : List ℕ) (op : Op) (left right : Tree) →
-    is_one_of name (element_names (Join n op left right)) ≡ (is_one_of name (element_names left) || is_one_of name (element_names right))
-element_join name n op left right = join_has_element name n op left right
-
 field_join : (n : List ℕ) (op : OpValue) (l r : Box Node Global) → field_of (views.Join n op l r) ≡ op.f
 unfolding field_of
 field_join n op l r = refl
@@ -261,7 +257,7 @@ reweighted_left name weight n op l r l2 x =
     let whole = named_join n op l r in
     record {
       answer =
-          sym (ap (λ (t : Tree). is_one_of name (element_names t)) whole ∙ element_join name n op.op left right
+          sym (ap (λ (t : Tree). is_one_of name (element_names t)) whole ∙ join_has_element name n op.op left right
           ∙ ap (λ (b : Bool). b || is_one_of name (element_names right)) (sym x.answer));
       tree =
           named_join n op (with_value l l2) r ∙ ap (λ (t : Tree). Join n op.op t right) x.tree
@@ -289,7 +285,7 @@ reweighted_right name weight n op l r l2 r2 found y x =
         let whole = named_join n op l r in
         record {
           answer =
-              sym (ap (λ (t : Tree). is_one_of name (element_names t)) whole ∙ element_join name n op.op left right
+              sym (ap (λ (t : Tree). is_one_of name (element_names t)) whole ∙ join_has_element name n op.op left right
               ∙ ap (λ (b : Bool). b || is_one_of name (element_names right)) (sym y.answer) ∙ sym x.answer);
           tree =
               named_join n op l (with_value r r2) ∙ ap (λ (t : Tree). Join n op.op left t) x.tree

@@ -1,10 +1,9 @@
 -- The text of a tree, from its parts.
-use Rattle.std.proofs.Common.{ℕ, ◌≡◌, ◌≤◌, List, [], ◌∷◌, ◌++◌, refl, sym, ap, ◌∙◌, subst, append_assoc, arith, Box, Global, Option, Some, None}
+use Rattle.std.proofs.Common.{ℕ, ◌≡◌, List, [], ◌∷◌, ◌++◌, refl, sym, ap, ◌∙◌, subst, append_assoc, arith, Box, Global, Option, Some, None}
 use Rattle.std.specs.Prelude.{codes}
-use Rattle.mm_field.specs.Digits.{order}
 use Rattle.mm_field.specs.declared.Field.{Field}
-use Rattle.mm_field.specs.declared.Field.TheVariants.{Two, Three, Four, Five}
 use Rattle.mm_field.specs.Vectors.{AreDigits}
+use Rattle.mm_field.proofs.Tables.{order-most}
 use Rattle.mm_logic.specs.Operator.{Op}
 use Rattle.mm_logic.specs.Tree.{IsValid}
 use Rattle.mm_ops.specs.OpValue.{OpValue}
@@ -55,16 +54,10 @@ join_lines node name op l r text e =
 
 -- ---- digits
 
-few_digits : (f : Field) → order f ≤ 5
-few_digits Two = omega arith
-few_digits Three = omega arith
-few_digits Four = omega arith
-few_digits Five = omega arith
-
 shown : (f : Field) (vec : List ℕ) → AreDigits f vec → AreShown vec
 shown f vec h k e l =
     let a = h k e l in
-    let b = few_digits f in
+    let b = order-most f in
     omega arith
 
 pub valid_digits : (f : Field) (tree : Tree) → IsValid f (shape tree) → HasShownDigits tree

@@ -3,7 +3,8 @@ use Rattle.std.proofs.Common.{ℕ, ℤ, ◌≡◌, ◌≤◌, ◌+◌, ◌*◌, 
 use Rattle.std.specs.List.{All, IsDistinct}
 use Rattle.std.specs.Str.{bytes_eq}
 use Rattle.mm_base.specs.Names.{is_name}
-use Rattle.std.proofs.lemmas.Bool.{leb-true, eqb-true}
+use Rattle.mm_base.proofs.NameLaws.{same_bytes}
+use Rattle.std.proofs.lemmas.Bool.{leb-true, eqb-true, both_ways, or_parts, true_from_ne_false}
 use Rattle.std.proofs.lemmas.List.{length-append}
 use Rattle.std.proofs.lemmas.List.Elements.{All-append, All-cons, All-nil, All-head, All-tail}
 use Rattle.mm_field.specs.declared.Field.{Field}
@@ -21,7 +22,7 @@ use Rattle.mm_tree.specs.TreeView.{Stands}
 use Rattle.mm_tree.specs.Weights.{weight_named, first_weight}
 use Rattle.mm_tree.specs.declared.node.Node.{Node}
 use Rattle.mm_tree.specs.declared.node.Node as nodes_of
-use Rattle.mm_tree.proofs.NameLaws.{AreApart, same_name, one_of_append, distinct_left, distinct_right, distinct_apart, distinct_append}
+use Rattle.mm_tree.proofs.NameLaws.{AreApart, one_of_append, distinct_left, distinct_right, distinct_apart, distinct_append}
 
 -- ---- sizes
 
@@ -43,26 +44,27 @@ few_nodes f tree v =
 
 -- ---- weights
 
-pub neither : (a b : Bool) → (a || b) ≡ false → (a ≡ false) × (b ≡ false)
-neither true b e = cc
-neither false b e = (refl, e)
-
-element_is_leaf : (name : List ℕ) (tree : Tree) → is_one_of name (leaf_names tree) ≡ false → is_one_of name (element_names tree) ≡ false
+-- a name of no leaf is one of no element, and an element is a leaf
+no_element_elsewhere : (name : List ℕ) (tree : Tree) → is_one_of name (leaf_names tree) ≡ false → is_one_of name (element_names tree) ≡ false
 unfolding leaf_names element_names
-element_is_leaf name (Elem n vec weight) e = e
-element_is_leaf name (Void n t) e = refl
-element_is_leaf name (Join n op left right) e =
-    let p = neither (is_one_of name (leaf_names left)) (is_one_of name (leaf_names right)) (sym (one_of_append name (leaf_names left) (leaf_names right)) ∙ e) in
+no_element_elsewhere name (Elem n vec weight) e = e
+no_element_elsewhere name (Void n t) e = refl
+no_element_elsewhere name (Join n op left right) e =
+    let p = or_parts (is_one_of name (leaf_names left)) (is_one_of name (leaf_names right)) (sym (one_of_append name (leaf_names left) (leaf_names right)) ∙ e) in
     one_of_append name (element_names left) (element_names right)
-    ∙ ap₂ (λ (a b : Bool). a || b) (element_is_leaf name left p.0) (element_is_leaf name right p.1)
+    ∙ ap₂ (λ (a b : Bool). a || b) (no_element_elsewhere name left p.0) (no_element_elsewhere name right p.1)
+
+pub element_is_leaf : (name : List ℕ) (tree : Tree) → is_one_of name (element_names tree) ≡ true → is_one_of name (leaf_names tree) ≡ true
+element_is_leaf name tree e =
+    true_from_ne_false (is_one_of name (leaf_names tree)) (λ f. both_ways (is_one_of name (element_names tree)) (no_element_elsewhere name tree f) e)
 
 pub weight_elsewhere : (name : List ℕ) (weight : ℤ) (tree : Tree) → is_one_of name (element_names tree) ≡ false → with_weight name weight tree ≡ tree
 unfolding element_names with_weight
 weight_elsewhere name weight (Elem n vec old) e =
-    ap (λ (b : Bool). if b then Elem n vec weight else Elem n vec old) (neither (bytes_eq name n) false e).0
+    ap (λ (b : Bool). if b then Elem n vec weight else Elem n vec old) (or_parts (bytes_eq name n) false e).0
 weight_elsewhere name weight (Void n t) e = refl
 weight_elsewhere name weight (Join n op left right) e =
-    let p = neither (is_one_of name (element_names left)) (is_one_of name (element_names right))
+    let p = or_parts (is_one_of name (element_names left)) (is_one_of name (element_names right))
     (sym (one_of_append name (element_names left) (element_names right)) ∙ e) in
     ap₂ (λ (a b : Tree). Join n op a b) (weight_elsewhere name weight left p.0) (weight_elsewhere name weight right p.1)
 
@@ -76,22 +78,14 @@ first_is_only name weight (Join n op left right) d =
     go (is_one_of name (element_names left)) refl (first_is_only name weight left (distinct_left (leaf_names left) (leaf_names right) d))
     (first_is_only name weight right (distinct_right (leaf_names left) (leaf_names right) d))
   where
-    leaf_too : (b : Bool) → is_one_of name (leaf_names left) ≡ b → is_one_of name (element_names left) ≡ true → is_one_of name (leaf_names left) ≡ true
-    leaf_too true e q = e
-    leaf_too false e q = absurd (clash (is_one_of name (element_names left)) q (element_is_leaf name left e))
-      where
-        clash : (b : Bool) → b ≡ true → b ≡ false → ⊥
-        clash true p q = cc
-        clash false p q = cc
-
     go : (b : Bool) → is_one_of name (element_names left) ≡ b → with_first_weight name weight left ≡ with_weight name weight left →
         with_first_weight name weight right ≡ with_weight name weight right →
         (if is_one_of name (element_names left) then Join n op (with_first_weight name weight left) right
         else Join n op left (with_first_weight name weight right)) ≡ Join n op (with_weight name weight left) (with_weight name weight right)
     go true e p q =
-        let apart = distinct_apart (leaf_names left) (leaf_names right) d name (leaf_too (is_one_of name (leaf_names left)) refl e) in
+        let apart = distinct_apart (leaf_names left) (leaf_names right) d name (element_is_leaf name left e) in
         ap (λ (b : Bool). if b then Join n op (with_first_weight name weight left) right else Join n op left (with_first_weight name weight right)) e
-        ∙ ap₂ (λ (a b : Tree). Join n op a b) p (sym (weight_elsewhere name weight right (element_is_leaf name right apart)))
+        ∙ ap₂ (λ (a b : Tree). Join n op a b) p (sym (weight_elsewhere name weight right (no_element_elsewhere name right apart)))
     go false e p q =
         ap (λ (b : Bool). if b then Join n op (with_first_weight name weight left) right else Join n op left (with_first_weight name weight right)) e
         ∙ ap₂ (λ (a b : Tree). Join n op a b) (sym (weight_elsewhere name weight left e)) q
@@ -307,10 +301,10 @@ outside_is_inside x (Join n op left right) [] e = refl
 outside_is_inside x (Elem n vec weight) (step ∷ way) e = e
 outside_is_inside x (Void n t) (step ∷ way) e = e
 outside_is_inside x (Join n op left right) (true ∷ way) e =
-    let p = neither (is_one_of x (leaf_names left)) (is_one_of x (leaf_names right)) (sym (one_of_append x (leaf_names left) (leaf_names right)) ∙ e) in
+    let p = or_parts (is_one_of x (leaf_names left)) (is_one_of x (leaf_names right)) (sym (one_of_append x (leaf_names left) (leaf_names right)) ∙ e) in
     one_of_append x (names_outside left way) (leaf_names right) ∙ ap₂ (λ (a b : Bool). a || b) (outside_is_inside x left way p.0) p.1
 outside_is_inside x (Join n op left right) (false ∷ way) e =
-    let p = neither (is_one_of x (leaf_names left)) (is_one_of x (leaf_names right)) (sym (one_of_append x (leaf_names left) (leaf_names right)) ∙ e) in
+    let p = or_parts (is_one_of x (leaf_names left)) (is_one_of x (leaf_names right)) (sym (one_of_append x (leaf_names left) (leaf_names right)) ∙ e) in
     one_of_append x (leaf_names left) (names_outside right way) ∙ ap₂ (λ (a b : Bool). a || b) p.0 (outside_is_inside x right way p.1)
 
 -- a name of the tree after an exchange is one of the new tree or one outside the node
@@ -323,11 +317,11 @@ absent_after x (Join n op left right) new [] a e = a
 absent_after x (Elem n vec weight) new (step ∷ way) a e = e
 absent_after x (Void n t) new (step ∷ way) a e = e
 absent_after x (Join n op left right) new (true ∷ way) a e =
-    let p = neither (is_one_of x (names_outside left way)) (is_one_of x (leaf_names right)) (sym (one_of_append x (names_outside left way) (leaf_names right)) ∙ e) in
+    let p = or_parts (is_one_of x (names_outside left way)) (is_one_of x (leaf_names right)) (sym (one_of_append x (names_outside left way) (leaf_names right)) ∙ e) in
     one_of_append x (leaf_names (with_node left way new)) (leaf_names right)
     ∙ ap₂ (λ (a b : Bool). a || b) (absent_after x left new way a p.0) p.1
 absent_after x (Join n op left right) new (false ∷ way) a e =
-    let p = neither (is_one_of x (leaf_names left)) (is_one_of x (names_outside right way)) (sym (one_of_append x (leaf_names left) (names_outside right way)) ∙ e) in
+    let p = or_parts (is_one_of x (leaf_names left)) (is_one_of x (names_outside right way)) (sym (one_of_append x (leaf_names left) (names_outside right way)) ∙ e) in
     one_of_append x (leaf_names left) (leaf_names (with_node right way new))
     ∙ ap₂ (λ (a b : Bool). a || b) p.0 (absent_after x right new way a p.1)
 
@@ -335,12 +329,8 @@ pub by_cases : {P : Type 0} (b : Bool) → (b ≡ true → P) → (b ≡ false �
 by_cases true f g = f refl
 by_cases false f g = g refl
 
-pub differ : {P : Type 0} (b : Bool) → b ≡ true → b ≡ false → P
-differ true p q = cc
-differ false p q = cc
-
 pub apart_back : (xs ys : List (List ℕ)) → AreApart xs ys → AreApart ys xs
-apart_back xs ys a x e = by_cases (is_one_of x xs) (λ t. differ (is_one_of x ys) e (a x t)) (λ q. q)
+apart_back xs ys a x e = by_cases (is_one_of x xs) (λ t. absurd (both_ways (is_one_of x ys) (a x t) e)) (λ q. q)
 
 names_exchange : (tree new : Tree) (way : Way) → IsDistinct bytes_eq (leaf_names tree) → IsDistinct bytes_eq (leaf_names new) →
     AreApart (leaf_names new) (names_outside tree way) → IsDistinct bytes_eq (leaf_names (with_node tree way new))
@@ -352,22 +342,22 @@ names_exchange (Elem n vec weight) new (step ∷ way) d e a = d
 names_exchange (Void n t) new (step ∷ way) d e a = d
 names_exchange (Join n op left right) new (true ∷ way) d e a =
     let p = λ (x : List ℕ) (q : is_one_of x (leaf_names new) ≡ true).
-    neither (is_one_of x (names_outside left way)) (is_one_of x (leaf_names right)) (sym (one_of_append x (names_outside left way) (leaf_names right)) ∙ a x q) in
+    or_parts (is_one_of x (names_outside left way)) (is_one_of x (leaf_names right)) (sym (one_of_append x (names_outside left way) (leaf_names right)) ∙ a x q) in
     let back = apart_back (leaf_names left) (leaf_names right) (distinct_apart (leaf_names left) (leaf_names right) d) in
     distinct_append (leaf_names (with_node left way new)) (leaf_names right)
     (names_exchange left new way (distinct_left (leaf_names left) (leaf_names right) d) e (λ x q. (p x q).0))
     (distinct_right (leaf_names left) (leaf_names right) d)
     (apart_back (leaf_names right) (leaf_names (with_node left way new))
-    (λ x q. absent_after x left new way (by_cases (is_one_of x (leaf_names new)) (λ t. differ (is_one_of x (leaf_names right)) q (p x t).1) (λ t. t))
+    (λ x q. absent_after x left new way (by_cases (is_one_of x (leaf_names new)) (λ t. absurd (both_ways (is_one_of x (leaf_names right)) (p x t).1 q)) (λ t. t))
     (outside_is_inside x left way (back x q))))
 names_exchange (Join n op left right) new (false ∷ way) d e a =
     let p = λ (x : List ℕ) (q : is_one_of x (leaf_names new) ≡ true).
-    neither (is_one_of x (leaf_names left)) (is_one_of x (names_outside right way)) (sym (one_of_append x (leaf_names left) (names_outside right way)) ∙ a x q) in
+    or_parts (is_one_of x (leaf_names left)) (is_one_of x (names_outside right way)) (sym (one_of_append x (leaf_names left) (names_outside right way)) ∙ a x q) in
     let apart = distinct_apart (leaf_names left) (leaf_names right) d in
     distinct_append (leaf_names left) (leaf_names (with_node right way new))
     (distinct_left (leaf_names left) (leaf_names right) d)
     (names_exchange right new way (distinct_right (leaf_names left) (leaf_names right) d) e (λ x q. (p x q).1))
-    (λ x q. absent_after x right new way (by_cases (is_one_of x (leaf_names new)) (λ t. differ (is_one_of x (leaf_names left)) q (p x t).0) (λ t. t))
+    (λ x q. absent_after x right new way (by_cases (is_one_of x (leaf_names new)) (λ t. absurd (both_ways (is_one_of x (leaf_names left)) (p x t).0 q)) (λ t. t))
     (outside_is_inside x right way (apart x q)))
 
 none_taken : (taken names : List (List ℕ)) → first_taken taken names ≡ None → AreApart names taken
@@ -376,7 +366,7 @@ none_taken taken (n ∷ names) e x q =
     by_cases (is_one_of n taken)
     (λ t. no_some n (sym (ap (λ (b : Bool). if b then Some n else first_taken taken names) t) ∙ e))
     (λ t. by_cases (bytes_eq x n)
-    (λ s. subst (λ (z : List ℕ). is_one_of z taken ≡ false) (sym (same_name x n s)) t)
+    (λ s. subst (λ (z : List ℕ). is_one_of z taken ≡ false) (sym (same_bytes x n s)) t)
     (λ s. none_taken taken names (sym (ap (λ (b : Bool). if b then Some n else first_taken taken names) t) ∙ e) x
     (sym (ap (λ (b : Bool). b || is_one_of x names) s) ∙ q)))
   where
@@ -423,7 +413,7 @@ pub has_weight : (name : List ℕ) (tree : Tree) → is_one_of name (element_nam
 unfolding weight_named element_names
 has_weight name (Elem n vec weight) e = by_cases (bytes_eq name n)
     (λ t. (weight, ap (λ (b : Bool). if b then Some weight else None) t))
-    (λ t. differ (bytes_eq name n || false) e (ap (λ (b : Bool). b || false) t))
+    (λ t. absurd (both_ways (bytes_eq name n || false) (ap (λ (b : Bool). b || false) t) e))
 has_weight name (Void n t) e = cc
 has_weight name (Join n op left right) e = by_cases (is_one_of name (element_names left))
     (λ t. let w = has_weight name left t in (w.0, ap (λ (o : Option ℤ). first_weight o (weight_named name right)) w.1))

@@ -1,8 +1,9 @@
 -- What is read off the nodes of a tree.
-use Rattle.std.proofs.Common.{ℕ, ◌≡◌, ◌||◌, ◌&&◌, Bool, true, false, List, [], ◌∷◌, refl, ap, ◌∙◌, Option, Some, None, if◌then◌else◌, Box, Global}
+use Rattle.std.proofs.Common.{ℕ, ◌≡◌, ◌||◌, ◌&&◌, List, [], ◌∷◌, refl, ap, ◌∙◌, Option, Some, None, if◌then◌else◌, Box, Global}
 use Rattle.std.specs.Option.{is_some}
 use Rattle.std.specs.Str.{bytes_eq}
 use Rattle.std.proofs.lemmas.List.Folds.{list_any-append}
+use Rattle.std.proofs.Math.Bool.{or-false}
 use Rattle.mm_logic.specs.Operator.{Op}
 use Rattle.mm_tree.specs.NamedTree.{Tree, depth, nodes, node_names, leaf_names, element_names, is_one_of}
 use Rattle.mm_tree.specs.NamedTree.Tree.{Join}
@@ -46,12 +47,8 @@ leaf_name l = go l.item
     go None = refl
     go (Some item) = refl
 
-or_false : (b : Bool) → (b || false) ≡ b
-or_false true = refl
-or_false false = refl
-
 pub leaf_has : (name : List ℕ) (l : leaves.Leaf) → is_one_of name (leaf_names (named_leaf l)) ≡ bytes_eq name l.name
-leaf_has name l = ap (is_one_of name) (leaf_name l) ∙ or_false (bytes_eq name l.name)
+leaf_has name l = ap (is_one_of name) (leaf_name l) ∙ or-false (bytes_eq name l.name)
 
 pub join_has : (name n : List ℕ) (op : Op) (left right : Tree) →
     is_one_of name (leaf_names (Join n op left right)) ≡ (is_one_of name (leaf_names left) || is_one_of name (leaf_names right))
@@ -66,7 +63,7 @@ leaf_is_element name l = go l.item
     go : (item : Option Item) →
         is_one_of name (element_names (named_leaf (record l { item = item }))) ≡ (is_some item && bytes_eq name l.name)
     go None = refl
-    go (Some item) = or_false (bytes_eq name l.name)
+    go (Some item) = or-false (bytes_eq name l.name)
 
 pub join_has_element : (name n : List ℕ) (op : Op) (left right : Tree) →
     is_one_of name (element_names (Join n op left right)) ≡ (is_one_of name (element_names left) || is_one_of name (element_names right))

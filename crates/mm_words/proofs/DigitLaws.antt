@@ -3,7 +3,7 @@ use Rattle.std.proofs.Common.{◌≡◌, ℕ, zero, suc, ◌+◌, ◌-◌, ◌<�
 use Rattle.std.specs.Prelude.{◌&&◌, nat_le, codes, IfSome, IfNone, if◌then◌else◌}
 use Rattle.std.specs.List.{list_all, slice_split, join_with_byte}
 use Rattle.std.specs.Str.{bytes_eq}
-use Rattle.std.proofs.lemmas.Bool.{le-leb, leb-true, lt-ltb, ltb-true, eqb-true}
+use Rattle.std.proofs.lemmas.Bool.{le-leb, leb-true, lt-ltb, ltb-true, eqb-true, and_from, and_parts}
 use Rattle.std.proofs.lemmas.List.{length-map}
 use Rattle.std.proofs.lemmas.List.Splits.{slice_split_none, slice_split_at, length-slice_split, join_with_byte-slice_split}
 use Rattle.std.proofs.lemmas.Slice.Eq.{bytes_eq-Decides}
@@ -14,22 +14,6 @@ use Rattle.mm_field.specs.Vectors.{AreDigits}
 use Rattle.mm_space.specs.VectorText.{vector_text, IsVectorText, joined_text, gen_text, IsGenText}
 use Rattle.mm_words.specs.DigitTexts.{is_digit, digit_of, digits_of, vector_of, with_vector, each_vector, is_slash, vectors_of}
 
-pub both : (a b : Bool) → a ≡ true → b ≡ true → (a && b) ≡ true
-both true b p q = q
-both false b p q = p
-
-pub first_of_both : (a b : Bool) → (a && b) ≡ true → a ≡ true
-first_of_both true b p = refl
-first_of_both false b p = p
-
-pub second_of_both : (a b : Bool) → (a && b) ≡ true → b ≡ true
-second_of_both true b p = p
-second_of_both false true p = refl
-second_of_both false false p = p
-
-no_value : {A : Type 0} (P : Type 0) (x : A) → None ≡ Some x → P
-no_value P x h = absurd (none-some x h)
-
 -- ---- digits
 
 digit_is_not : (n d : ℕ) (c : Bool) → n < 48 → nat_eq (48 + d) n ≡ c → c ≡ false
@@ -37,12 +21,12 @@ digit_is_not n d true h e = absurd (omega (arith, h, eqb-true (48 + d) n e))
 digit_is_not n d false h e = refl
 
 shown_digit : (f : Field) (d : ℕ) → d < order f → is_digit f (48 + d) ≡ true
-shown_digit f d h = both (nat_le 48 (48 + d)) (nat_lt (48 + d) (48 + order f)) (le-leb 48 (48 + d) (omega arith)) (lt-ltb (48 + d) (48 + order f) (omega (arith, h)))
+shown_digit f d h = and_from (nat_le 48 (48 + d)) (nat_lt (48 + d) (48 + order f)) (le-leb 48 (48 + d) (omega arith)) (lt-ltb (48 + d) (48 + order f) (omega (arith, h)))
 
 shown_digits : (f : Field) (v : List ℕ) → AreDigits f v → list_all (is_digit f) (map (λ x. 48 + x) v) ≡ true
 shown_digits f [] h = refl
 shown_digits f (d ∷ v) h =
-    both (is_digit f (48 + d)) (list_all (is_digit f) (map (λ x. 48 + x) v)) (shown_digit f d (h 0 0 (omega arith)))
+    and_from (is_digit f (48 + d)) (list_all (is_digit f) (map (λ x. 48 + x) v)) (shown_digit f d (h 0 0 (omega arith)))
     (shown_digits f v (λ k e l. h (suc k) e (omega (arith, l))))
 
 digits_back : (v : List ℕ) → map digit_of (map (λ x. 48 + x) v) ≡ v
@@ -52,18 +36,18 @@ digits_back (d ∷ v) = ap₂ (λ (x : ℕ) (xs : List ℕ). x ∷ xs) {x = 48 +
 text_back : (f : Field) (t : List ℕ) → list_all (is_digit f) t ≡ true → map (λ x. 48 + x) (map digit_of t) ≡ t
 text_back f [] h = refl
 text_back f (b ∷ t) h =
-    let here = first_of_both (is_digit f b) (list_all (is_digit f) t) h in
-    let least : 48 ≤ b = leb-true 48 b (first_of_both (nat_le 48 b) (nat_lt b (48 + order f)) here) in
-    ap₂ (λ (x : ℕ) (xs : List ℕ). x ∷ xs) {x = 48 + (b - 48)} {y = b} (omega (arith, least)) (text_back f t (second_of_both (is_digit f b) (list_all (is_digit f) t) h))
+    let here = (and_parts (is_digit f b) (list_all (is_digit f) t) h).0 in
+    let least : 48 ≤ b = leb-true 48 b (and_parts (nat_le 48 b) (nat_lt b (48 + order f)) here).0 in
+    ap₂ (λ (x : ℕ) (xs : List ℕ). x ∷ xs) {x = 48 + (b - 48)} {y = b} (omega (arith, least)) (text_back f t (and_parts (is_digit f b) (list_all (is_digit f) t) h).1)
 
-digits_small : (f : Field) (t : List ℕ) → list_all (is_digit f) t ≡ true → (k e : ℕ) → k < length (map digit_of t) → get_or (map digit_of t) k e < order f
+pub digits_small : (f : Field) (t : List ℕ) → list_all (is_digit f) t ≡ true → (k e : ℕ) → k < length (map digit_of t) → get_or (map digit_of t) k e < order f
 digits_small f [] h k e l = absurd (omega (arith, l))
 digits_small f (b ∷ t) h zero e l =
-    let here = first_of_both (is_digit f b) (list_all (is_digit f) t) h in
-    let least : 48 ≤ b = leb-true 48 b (first_of_both (nat_le 48 b) (nat_lt b (48 + order f)) here) in
-    let most : b < 48 + order f = ltb-true b (48 + order f) (second_of_both (nat_le 48 b) (nat_lt b (48 + order f)) here) in
+    let here = (and_parts (is_digit f b) (list_all (is_digit f) t) h).0 in
+    let least : 48 ≤ b = leb-true 48 b (and_parts (nat_le 48 b) (nat_lt b (48 + order f)) here).0 in
+    let most : b < 48 + order f = ltb-true b (48 + order f) (and_parts (nat_le 48 b) (nat_lt b (48 + order f)) here).1 in
     omega (arith, least, most)
-digits_small f (b ∷ t) h (suc k) e l = digits_small f t (second_of_both (is_digit f b) (list_all (is_digit f) t) h) k e (omega (arith, l))
+digits_small f (b ∷ t) h (suc k) e l = digits_small f t (and_parts (is_digit f b) (list_all (is_digit f) t) h).1 k e (omega (arith, l))
 
 pub small_digits : (f : Field) (t ds : List ℕ) → list_all (is_digit f) t ≡ true → ds ≡ map digit_of t → AreDigits f ds
 small_digits f t ds h e = subst (λ (l : List ℕ). AreDigits f l) (sym e) (digits_small f t h)
@@ -76,7 +60,7 @@ digits_of_text f (d ∷ v) h =
     let t = map (λ x. 48 + x) (d ∷ v) in
     let more = bytes_eq (map (λ x. 48 + x) v) [] in
     ap (λ (c : Bool). if c && more then Some [] else if nat_le 1 (length t) && list_all (is_digit f) t then Some (map digit_of t) else None) (digit_is_not 45 d (nat_eq (48 + d) 45) (omega arith) refl)
-    ∙ ap (λ (c : Bool). if c then Some (map digit_of t) else None) (both (nat_le 1 (length t)) (list_all (is_digit f) t) (le-leb 1 (length t) (omega arith)) (shown_digits f (d ∷ v) h))
+    ∙ ap (λ (c : Bool). if c then Some (map digit_of t) else None) (and_from (nat_le 1 (length t)) (list_all (is_digit f) t) (le-leb 1 (length t) (omega arith)) (shown_digits f (d ∷ v) h))
     ∙ ap Some (digits_back (d ∷ v))
 
 text_short : (v : List ℕ) → length v ≤ 18 → length (vector_text v) ≤ 18
@@ -94,23 +78,23 @@ dash t h = (bytes_eq-Decides t (codes "-")).0 h
 
 digits_text : (f : Field) (t : List ℕ) → (nat_le 1 (length t) && list_all (is_digit f) t) ≡ true → t ≡ vector_text (map digit_of t)
 digits_text f [] h = absurd (omega (arith, leb-true 1 0 h))
-digits_text f (b ∷ t) h = sym (text_back f (b ∷ t) (second_of_both (nat_le 1 (length (b ∷ t))) (list_all (is_digit f) (b ∷ t)) h))
+digits_text f (b ∷ t) h = sym (text_back f (b ∷ t) (and_parts (nat_le 1 (length (b ∷ t))) (list_all (is_digit f) (b ∷ t)) h).1)
 
 vector_cases : (f : Field) (t v : List ℕ) (short no_digits digits : Bool) → nat_le (length t) 18 ≡ short → bytes_eq t (codes "-") ≡ no_digits
     → (nat_le 1 (length t) && list_all (is_digit f) t) ≡ digits
     → (if short then (if no_digits then Some [] else if digits then Some (map digit_of t) else None) else None) ≡ Some v → IsVectorText f v t
-vector_cases f t v false no_digits digits s n d h = no_value (IsVectorText f v t) v h
+vector_cases f t v false no_digits digits s n d h = absurd (none-some v h)
 vector_cases f t v true true digits s n d h =
     subst (λ (w : List ℕ). IsVectorText f w t) (same_Some [] v h)
     (record { digits = λ k e l. absurd (omega (arith, l)); short = omega arith; text = dash t n })
 vector_cases f t v true false true s n d h =
     subst (λ (w : List ℕ). IsVectorText f w t) (same_Some (map digit_of t) v h)
     (record {
-      digits = digits_small f t (second_of_both (nat_le 1 (length t)) (list_all (is_digit f) t) d);
+      digits = digits_small f t (and_parts (nat_le 1 (length t)) (list_all (is_digit f) t) d).1;
       short = omega (arith, leb-true (length t) 18 s, length-map t digit_of);
       text = digits_text f t d;
     })
-vector_cases f t v true false false s n d h = no_value (IsVectorText f v t) v h
+vector_cases f t v true false false s n d h = absurd (none-some v h)
 
 pub text_of_vector : (f : Field) (t v : List ℕ) → vector_of f t ≡ Some v → IsVectorText f v t
 text_of_vector f t v h = vector_cases f t v (nat_le (length t) 18) (bytes_eq t (codes "-")) (nat_le 1 (length t) && list_all (is_digit f) t) refl refl refl h
@@ -178,8 +162,8 @@ at_each P x xs p ps (suc k) e l = ps k e (omega (arith, l))
 
 show_first : (f : Field) (t : List ℕ) (ts : List (List ℕ)) (o : Option (List ℕ)) (os : Option (List (List ℕ))) (rows : List (List ℕ))
     → ((v : List ℕ) → o ≡ Some v → IsVectorText f v t) → ((vs : List (List ℕ)) → os ≡ Some vs → ShowEach f ts vs) → with_vector o os ≡ Some rows → ShowEach f (t ∷ ts) rows
-show_first f t ts None os rows h hs e = no_value (ShowEach f (t ∷ ts) rows) rows e
-show_first f t ts (Some v) None rows h hs e = no_value (ShowEach f (t ∷ ts) rows) rows e
+show_first f t ts None os rows h hs e = absurd (none-some rows e)
+show_first f t ts (Some v) None rows h hs e = absurd (none-some rows e)
 show_first f t ts (Some v) (Some vs) rows h hs e =
     let here = h v refl in
     let behind = hs vs refl in
@@ -212,7 +196,7 @@ vectors_cases : (f : Field) (t : List ℕ) (rows : List (List ℕ)) (none few : 
 vectors_cases f t rows true few n w h =
     subst (λ (l : List (List ℕ)). IsGenText f l t) (same_Some [] rows h)
     (record { digits = λ k e l. absurd (omega (arith, l)); short = λ k e l. absurd (omega (arith, l)); few = omega arith; text = dot t n })
-vectors_cases f t rows false false n w h = no_value (IsGenText f rows t) rows h
+vectors_cases f t rows false false n w h = absurd (none-some rows h)
 vectors_cases f t rows false true n w h =
     let shown = show_each f (slice_split is_slash t) rows h in
     let count : length (slice_split is_slash t) ≡ length rows = ap length shown.texts ∙ length-map rows vector_text in

@@ -1,8 +1,9 @@
 pub mod ReaderLaws
-mod DigitLaws
+pub mod DigitLaws
 mod SpacedLaws
 mod NumeralLaws
 mod TextLineLaws
 mod WrittenLineLaws
 mod WrittenTreeLaws
+pub mod ReadingLaws
 mod ReadTreeLaws

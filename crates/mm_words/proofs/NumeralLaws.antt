@@ -5,7 +5,7 @@ use Rattle.std.specs.Char.{is_ascii_digit, is_ascii_lowercase}
 use Rattle.std.specs.Fmt.{decimal, signed_decimal}
 use Rattle.std.specs.List.{list_all}
 use Rattle.std.specs.Str.Parse.{digits_value}
-use Rattle.std.proofs.lemmas.Bool.{le-leb, leb-true}
+use Rattle.std.proofs.lemmas.Bool.{le-leb, and_from, and_parts}
 use Rattle.std.proofs.lemmas.Bool.Decides.{nat_tests}
 use Rattle.std.proofs.lemmas.Fmt.{decimal_by_steps, decimal_is_IsNumeral, length-decimal-le}
 use Rattle.std.proofs.lemmas.List.{length-map}
@@ -14,13 +14,12 @@ use Rattle.std.proofs.lemmas.List.Folds.{list_all-append}
 use Rattle.mm_base.specs.Names.{is_name, is_name_byte}
 use Rattle.mm_lines.specs.Numbers.{number_of, u32_of, i64_of, signed}
 use Rattle.mm_space.specs.VectorText.{vector_text}
-use Rattle.mm_words.proofs.DigitLaws.{both, first_of_both, second_of_both}
 use Rattle.mm_words.proofs.SpacedLaws.{IsWord, above_is_not}
 
 all_above : (p : ℕ → Bool) (bs : List ℕ) → ((b : ℕ) → p b ≡ true → 36 ≤ b) → list_all p bs ≡ true → All (λ b. 36 ≤ b) bs
 all_above p [] above h = All-nil (λ b. 36 ≤ b)
 all_above p (b ∷ bs) above h =
-    All-cons (λ c. 36 ≤ c) b bs (above b (first_of_both (p b) (list_all p bs) h)) (all_above p bs above (second_of_both (p b) (list_all p bs) h))
+    All-cons (λ c. 36 ≤ c) b bs (above b (and_parts (p b) (list_all p bs) h).0) (all_above p bs above (and_parts (p b) (list_all p bs) h).1)
 
 -- ---- numbers
 
@@ -31,11 +30,11 @@ is_digit : (d : ℕ) → d < 10 → is_ascii_digit (48 + d) ≡ true
 is_digit d h = grind (arith, nat_tests)
 
 one_digit : (n : ℕ) → n < 10 → list_all is_ascii_digit ((48 + n) ∷ []) ≡ true
-one_digit n h = both (is_ascii_digit (48 + n)) true (is_digit n h) refl
+one_digit n h = and_from (is_ascii_digit (48 + n)) true (is_digit n h) refl
 
 more_digits : (n : ℕ) (ds : List ℕ) → 10 ≤ n → list_all is_ascii_digit ds ≡ true → list_all is_ascii_digit (ds ++ (48 + n % 10) ∷ []) ≡ true
 more_digits n ds h all =
-    list_all-append is_ascii_digit ds ((48 + n % 10) ∷ []) ∙ both (list_all is_ascii_digit ds) (list_all is_ascii_digit ((48 + n % 10) ∷ [])) all (one_digit (n % 10) (omega arith))
+    list_all-append is_ascii_digit ds ((48 + n % 10) ∷ []) ∙ and_from (list_all is_ascii_digit ds) (list_all is_ascii_digit ((48 + n % 10) ∷ [])) all (one_digit (n % 10) (omega arith))
 
 decimal_digits : (n : ℕ) → n < 2 ^ 64 → list_all is_ascii_digit (decimal n) ≡ true
 decimal_digits n h = decimal_by_steps (λ n ds. list_all is_ascii_digit ds ≡ true) one_digit more_digits n h
@@ -50,8 +49,8 @@ number_back : (most n : ℕ) → 0 < most → n < 10 ^ most → n < 2 ^ 64 → n
 number_back most n some small h =
     let ds = decimal n in
     ap (λ (b : Bool). if b then Some (digits_value 10 ds) else None)
-    (both (nat_le 1 (length ds) && nat_le (length ds) most) (list_all is_ascii_digit ds)
-    (both (nat_le 1 (length ds)) (nat_le (length ds) most) (le-leb 1 (length ds) (decimal_is_IsNumeral n h).0.0) (le-leb (length ds) most (length-decimal-le most n some small h)))
+    (and_from (nat_le 1 (length ds) && nat_le (length ds) most) (list_all is_ascii_digit ds)
+    (and_from (nat_le 1 (length ds)) (nat_le (length ds) most) (le-leb 1 (length ds) (decimal_is_IsNumeral n h).0.0) (le-leb (length ds) most (length-decimal-le most n some small h)))
     (decimal_digits n h))
     ∙ ap Some (decimal_is_IsNumeral n h).1
 
@@ -62,7 +61,7 @@ unsigned : (ds : List ℕ) → 0 < length ds → list_all is_ascii_digit ds ≡ 
 unsigned [] some h = absurd (omega arith)
 unsigned (b ∷ bs) some h =
     ap (λ (c : Bool). if c then signed (λ n. neg_ℤ (pos n)) (number_of 18 bs) else signed pos (number_of 18 (b ∷ bs)))
-    (above_is_not b 45 (b == 45) (omega (arith, digit_above b (first_of_both (is_ascii_digit b) (list_all is_ascii_digit bs) h))) refl)
+    (above_is_not b 45 (b == 45) (omega (arith, digit_above b (and_parts (is_ascii_digit b) (list_all is_ascii_digit bs) h).0)) refl)
 
 pub i64_back : (w : ℤ) → nat_abs w ≤ 1000000000000 → i64_of (signed_decimal w) ≡ Some w
 i64_back (pos n) h =
@@ -88,19 +87,17 @@ name_byte_above b h = grind (arith, nat_tests)
 lowercase_above : (b : ℕ) → is_ascii_lowercase b ≡ true → 36 ≤ b
 lowercase_above b h = grind (arith, nat_tests)
 
--- the first byte of a name is a letter, at most 15 bytes follow it, and all are of a name
+-- the first byte of a name is a letter, and all that follow it are of a name
 pub record IsNamed (b : ℕ) (bs : List ℕ) : Type 0 where
   pub letter : is_ascii_lowercase b ≡ true
-  pub few : length bs ≤ 15
   pub each : list_all is_name_byte bs ≡ true
 
 named : (b : ℕ) (bs : List ℕ) → is_name (b ∷ bs) ≡ true → IsNamed b bs
 named b bs h =
-    let front = first_of_both (is_ascii_lowercase b && nat_le (length bs) 15) (list_all is_name_byte bs) h in
+    let front = (and_parts (is_ascii_lowercase b && nat_le (length bs) 15) (list_all is_name_byte bs) h).0 in
     record {
-      letter = first_of_both (is_ascii_lowercase b) (nat_le (length bs) 15) front;
-      few = leb-true (length bs) 15 (second_of_both (is_ascii_lowercase b) (nat_le (length bs) 15) front);
-      each = second_of_both (is_ascii_lowercase b && nat_le (length bs) 15) (list_all is_name_byte bs) h;
+      letter = (and_parts (is_ascii_lowercase b) (nat_le (length bs) 15) front).0;
+      each = (and_parts (is_ascii_lowercase b && nat_le (length bs) 15) (list_all is_name_byte bs) h).1;
     }
 
 pub name_word : (name : List ℕ) → is_name name ≡ true → IsWord name
@@ -111,10 +108,6 @@ name_word (b ∷ bs) h =
       some = omega arith;
       bytes = All-cons (λ c. 36 ≤ c) b bs (lowercase_above b parts.letter) (all_above is_name_byte bs name_byte_above parts.each);
     }
-
-pub length_name : (name : List ℕ) → is_name name ≡ true → length name ≤ 16
-length_name [] h = omega arith
-length_name (b ∷ bs) h = omega (arith, (named b bs h).few)
 
 pub vector_word : (vec : List ℕ) → IsWord (vector_text vec)
 vector_word [] = record { some = omega arith; bytes = All-cons (λ b. 36 ≤ b) 45 [] (omega arith) (All-nil (λ b. 36 ≤ b)) }

@@ -1,5 +1,5 @@
 -- The operators of a tree that was read are those under their names.
-use Rattle.std.proofs.Common.{◌≡◌, ℕ, Bool, true, false, List, [], ◌∷◌, Option, Some, None, refl, ap, ◌∙◌, subst}
+use Rattle.std.proofs.Common.{◌≡◌, ℕ, Bool, true, false, List, [], ◌∷◌, Some, ap, ◌∙◌, subst}
 use Rattle.std.specs.Prelude.{◌==◌, not, nat_lt, nat_le, codes, length, IfOk, Ok, Err, if◌then◌else◌}
 use Rattle.std.proofs.lemmas.Option.{same_Some}
 use Rattle.std.specs.declared.result.Result.{Result}
@@ -13,24 +13,15 @@ use Rattle.mm_tree.proofs.BuilderLaws.{over_named}
 use Rattle.mm_tree.specs.NamedTree.{Tree, boundary, depth, is_one_of}
 use Rattle.mm_tree.specs.NamedTree.Tree.{Elem, Void, Join}
 use Rattle.mm_tree.specs.ValidTree.{most_leaves, most_depth}
-use Rattle.mm_words.specs.Arguments.{begins, is_word, too_long}
-use Rattle.mm_words.specs.Demands.{◌>>=◌, ◌>>◌, demand, found}
-use Rattle.mm_words.specs.Readers.{Reading, Read, Refused, Short, and_then, now, refused_or, line, goes_on, each}
+use Rattle.mm_words.specs.Arguments.{begins, is_word}
+use Rattle.mm_words.specs.Demands.{◌>>=◌, ◌>>◌}
+use Rattle.mm_words.specs.Readers.{Reading, Read, line, each}
 use Rattle.mm_words.specs.TreeLines.{names_in, with_leaf, elem_words, elem_line, void_words, void_line, last_two, join_words, join_line, is_tree_part, tree_part, the_one, end_line, tree_lines}
 use Rattle.mm_words.specs.WrittenTrees.{HoldsJoins}
 use Rattle.mm_words.specs.declared.refusal.Limit.TheVariants as limit
 use Rattle.mm_words.specs.declared.refusal.Refusal.{Refusal}
 use Rattle.mm_words.specs.declared.refusal.Refusal.TheVariants as refusal
-
--- ---- what is true of all that passes some tests
-
-if_demand : {B : Type 0} (P : B → Type 0) (b : Bool) (e : Refusal) (next : Result B Refusal) → (b ≡ true → IfOk next P) → IfOk (demand b e >> next) P
-if_demand P true e next h = h refl
-if_demand P false e next h = tt
-
-if_found : {A B : Type 0} (P : B → Type 0) (o : Option A) (e : Refusal) (k : A → Result B Refusal) → ((x : A) → o ≡ Some x → IfOk (k x) P) → IfOk (found o e >>= k) P
-if_found P None e k h = tt
-if_found P (Some x) e k h = h x refl
+use Rattle.mm_words.proofs.ReadingLaws.{IfRead, if_demand, if_found, each_has, line_has, then_has}
 
 -- ---- each line leaves trees whose operators are those under their names
 
@@ -88,23 +79,6 @@ part_held f ops trees r over held = go (begins (codes "elem") r) (begins (codes 
 
 -- ---- all lines
 
--- what is true of what is read
-abbrev IfRead : {A : Type 0} → (A → Type 0) → Reading A → Type 0
-IfRead P (Read x rest) = P x
-IfRead P (Refused e) = Unit {0}
-IfRead P Short = Unit {0}
-
-each_has : {A : Type 0} (P : A → Type 0) (test : Line → Bool) (g : A → Line → Result A Refusal) → ((x : A) (r : Line) → P x → IfOk (g x r) P)
-    → (x : A) (rs : List Line) → P x → IfRead P (each test g x rs)
-each_has P test g keeps x [] h = tt
-each_has {A} P test g keeps x (r ∷ rs) h = go (test r) (g x r) (keeps x r h) (λ y k. each_has P test g keeps y rs k)
-  where
-    go : (b : Bool) (res : Result A Refusal) → IfOk res P → ((y : A) → P y → IfRead P (each test g y rs))
-        → IfRead P (if b then goes_on res (λ y. each test g y rs) else Read x (r ∷ rs))
-    go true (Ok y) k behind = behind y k
-    go true (Err e) k behind = tt
-    go false res k behind = h
-
 one_held : (f : Field) (ops : Named) (all : List Tree) (tree : Tree) → AreHeld f ops all → the_one all ≡ Some tree → HoldsJoins f ops tree
 one_held f ops [] tree held h = cc
 one_held f ops (t ∷ []) tree held h = subst (λ (u : Tree). HoldsJoins f ops u) (same_Some t tree h) held.0
@@ -115,21 +89,6 @@ unfolding end_line
 end_held f ops all r held =
     if_demand (λ (read : Tree × ℕ). HoldsJoins f ops read.0) (is_word (codes "end") r) (refusal.Syntax r.number) _ (λ word.
     if_found (λ (read : Tree × ℕ). HoldsJoins f ops read.0) (the_one all) (refusal.Trees r.number) _ (λ tree one. one_held f ops all tree held one))
-
-line_has : {A : Type 0} (P : A → Type 0) (g : Line → Result A Refusal) → ((r : Line) → IfOk (g r) P) → (rs : List Line) → IfRead P (line g rs)
-line_has P g h [] = tt
-line_has {A} P g h (r ∷ rs) = go (too_long r.text r.number) (g r) (h r)
-  where
-    go : (o : Option Refusal) (res : Result A Refusal) → IfOk res P → IfRead P (now (refused_or o res) rs)
-    go None (Ok x) k = k
-    go None (Err e) k = tt
-    go (Some e) res k = tt
-
-then_has : {A B : Type 0} (Q : A → Type 0) (P : B → Type 0) (reading : Reading A) (k : A → List Line → Reading B) → IfRead Q reading
-    → ((x : A) (rs : List Line) → Q x → IfRead P (k x rs)) → IfRead P (and_then reading k)
-then_has Q P (Read x rest) k q h = h x rest q
-then_has Q P (Refused e) k q h = tt
-then_has Q P Short k q h = tt
 
 tree_held : (f : Field) (ops : Named) (rs : List Line) → AreOver f ops → IfRead (λ (read : Tree × ℕ). HoldsJoins f ops read.0) (tree_lines f ops [] rs)
 unfolding tree_lines

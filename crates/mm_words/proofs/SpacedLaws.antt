@@ -1,12 +1,13 @@
 -- Words with single blanks between them are the tokens of their line.
-use Rattle.std.proofs.Common.{◌≡◌, ℕ, ◌+◌, ◌<◌, ◌≤◌, Bool, true, false, cond, nat_eq, List, [], ◌∷◌, ◌++◌, length, filter, get_or, refl, ap, ◌∙◌, arith}
-use Rattle.std.specs.Prelude.{◌||◌, ◌==◌, All}
+use Rattle.std.proofs.Common.{◌≡◌, ℕ, ◌+◌, ◌<◌, ◌≤◌, Bool, true, false, nat_eq, List, [], ◌∷◌, ◌++◌, length, filter, get_or, refl, ap, ◌∙◌, arith}
+use Rattle.std.specs.Prelude.{◌==◌, All}
 use Rattle.std.specs.List.{slice_split}
-use Rattle.std.proofs.lemmas.Bool.{eqb-true}
+use Rattle.std.proofs.lemmas.Bool.{eqb-true, or_from}
 use Rattle.std.proofs.lemmas.List.{length-append}
 use Rattle.std.proofs.lemmas.List.Elements.{All-nil, All-cons, All-append, All-weaker}
 use Rattle.std.proofs.lemmas.List.Splits.{slice_split_none, slice_split_at}
 use Rattle.mm_lines.specs.Tokens.{has_some, is_blank, tokens}
+use Rattle.mm_lines.proofs.TokenLaws.{filtered}
 use Rattle.mm_tree.specs.TreeText.{spaced}
 
 -- a word of a written line: letters, digits, `_` and `-`, all of which are above `#` and the blanks
@@ -22,29 +23,18 @@ pub above_is_not : (b n : ℕ) (c : Bool) → n < b → nat_eq b n ≡ c → c �
 above_is_not b n true h e = absurd (omega (arith, h, eqb-true b n e))
 above_is_not b n false h e = refl
 
-pub none_of : (a b : Bool) → a ≡ false → b ≡ false → (a || b) ≡ false
-none_of true b p q = p
-none_of false b p q = q
-
 not_blank : (b : ℕ) → 36 ≤ b → is_blank b ≡ false
-not_blank b h = none_of (b == 32) (b == 9) (above_is_not b 32 (b == 32) (omega arith) refl) (above_is_not b 9 (b == 9) (omega arith) refl)
+not_blank b h = or_from (b == 32) (b == 9) (above_is_not b 32 (b == 32) (omega arith) refl) (above_is_not b 9 (b == 9) (omega arith) refl)
 
 solid : (w : List ℕ) → IsWord w → All (λ b. is_blank b ≡ false) w
 solid w h = All-weaker (λ b. 36 ≤ b) (λ b. is_blank b ≡ false) not_blank w h.bytes
 
-has_some-true : (xs : List ℕ) → 0 < length xs → has_some xs ≡ true
-has_some-true [] h = absurd (omega arith)
-has_some-true (x ∷ xs) h = refl
-
-kept : (w : List ℕ) (ws : List (List ℕ)) → 0 < length w → filter has_some (w ∷ ws) ≡ w ∷ filter has_some ws
-kept w ws h = ap (λ (b : Bool). cond b (w ∷ filter has_some ws) (filter has_some ws)) (has_some-true w h)
-
 pub tokens_spaced : (w : List ℕ) (ws : List (List ℕ)) → AreWords (w ∷ ws) → tokens (spaced (w ∷ ws)) ≡ w ∷ ws
 unfolding tokens
-tokens_spaced w [] h = ap (filter has_some) (slice_split_none is_blank w (solid w h.0)) ∙ kept w [] h.0.some
+tokens_spaced w [] h = ap (filter has_some) (slice_split_none is_blank w (solid w h.0)) ∙ filtered w [] h.0.some
 tokens_spaced w (v ∷ vs) h =
     ap (filter has_some) (slice_split_at is_blank w 32 (spaced (v ∷ vs)) (solid w h.0) refl)
-    ∙ kept w (slice_split is_blank (spaced (v ∷ vs))) h.0.some
+    ∙ filtered w (slice_split is_blank (spaced (v ∷ vs))) h.0.some
     ∙ ap (λ (ts : List (List ℕ)). w ∷ ts) (tokens_spaced v vs h.1)
 
 plain_word : (w : List ℕ) → IsWord w → All (λ b. 32 ≤ b) w

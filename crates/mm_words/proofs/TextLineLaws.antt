@@ -3,7 +3,7 @@ use Rattle.std.proofs.Common.{◌≡◌, ℕ, ◌+◌, ◌-◌, ◌*◌, ◌<◌
 use Rattle.std.specs.Prelude.{◌==◌, not, nat_le, All, slice_index, if◌then◌else◌}
 use Rattle.std.specs.List.{slice_split, AllByRecursion}
 use Rattle.std.specs.Str.Lines.{strip_carriage_return}
-use Rattle.std.proofs.lemmas.Bool.{leb-true, ltb-true}
+use Rattle.std.proofs.lemmas.Bool.{leb-true, ltb-true, or_from}
 use Rattle.std.proofs.lemmas.List.{length-append, take_all}
 use Rattle.std.proofs.lemmas.List.Elements.{All-weaker}
 use Rattle.std.proofs.lemmas.List.Splits.{slice_split_at}
@@ -13,7 +13,7 @@ use Rattle.mm_lines.specs.declared.line.Line.{Line}
 use Rattle.mm_lines.specs.declared.line.LineText.TheVariants.{Whole, TooLong}
 use Rattle.mm_lines.proofs.TokenLaws.{tokens_nil}
 use Rattle.mm_tree.specs.TreeText.{text_of_lines}
-use Rattle.mm_words.proofs.SpacedLaws.{above_is_not, none_of}
+use Rattle.mm_words.proofs.SpacedLaws.{above_is_not}
 
 -- a line that is read as it is
 pub record IsPlainLine (line : List ℕ) : Type 0 where
@@ -72,7 +72,7 @@ no_return line h =
 
 not_passed : (line : List ℕ) → IsPlainLine line → is_passed_over line ≡ false
 not_passed line h =
-    none_of (slice_index line 0 == 35) (not (has_some (tokens line))) (above_is_not (slice_index line 0) 35 (slice_index line 0 == 35) (omega (arith, h.first)) refl)
+    or_from (slice_index line 0 == 35) (not (has_some (tokens line))) (above_is_not (slice_index line 0) 35 (slice_index line 0 == 35) (omega (arith, h.first)) refl)
     (ap not h.seen)
 
 line_of_plain : (number : ℕ) (line : List ℕ) → IsPlainLine line → line_of number line ≡ line_at number line ∷ []

@@ -4,6 +4,7 @@ use Rattle.std.specs.Prelude.{◌==◌, nat_le, codes, Ok}
 use Rattle.std.specs.Fmt.{decimal, signed_decimal}
 use Rattle.std.proofs.lemmas.List.Elements.{All-from_recursion}
 use Rattle.mm_base.specs.Names.{is_name}
+use Rattle.mm_base.proofs.PaddedLaws.{name_short}
 use Rattle.mm_field.specs.declared.Field.{Field}
 use Rattle.mm_lines.specs.LineBytes.{bytes_of}
 use Rattle.mm_lines.specs.Numbers.{u32_of, i64_of}
@@ -19,7 +20,7 @@ use Rattle.mm_tree.specs.ValidTree.{most_leaves, most_depth, most_weight}
 use Rattle.mm_words.specs.DigitTexts.{vector_of}
 use Rattle.mm_words.specs.TreeLines.{names_in, most_boundary, elem_words, elem_line, void_words, void_line, join_words, join_line, is_tree_part, tree_part, end_line}
 use Rattle.mm_words.proofs.SpacedLaws.{IsWord, AreWords, tokens_spaced, plain_spaced, first_spaced, length_spaced}
-use Rattle.mm_words.proofs.NumeralLaws.{decimal_word, length_small, signed_word, length_signed, name_word, length_name, vector_word, length_vector}
+use Rattle.mm_words.proofs.NumeralLaws.{decimal_word, length_small, signed_word, length_signed, name_word, vector_word, length_vector}
 use Rattle.mm_words.proofs.TextLineLaws.{IsPlainLine}
 
 -- ---- the lines are plain
@@ -55,15 +56,15 @@ elem_plain name vec weight h short light =
     let v = vector_text vec in
     let w = signed_decimal weight in
     plain_line (codes "elem") (name ∷ v ∷ w ∷ []) (elem_are_words name vec weight h light)
-    (omega (arith, length_spaced (codes "elem") name (v ∷ w ∷ []), length_spaced name v (w ∷ []), length_spaced v w [], length_name name h, length_vector vec, length_signed weight light))
+    (omega (arith, length_spaced (codes "elem") name (v ∷ w ∷ []), length_spaced name v (w ∷ []), length_spaced v w [], name_short name h, length_vector vec, length_signed weight light))
 
 pub void_plain : (name : List ℕ) (t : ℕ) → is_name name ≡ true → t ≤ 6 → IsPlainLine (void_text name t)
 void_plain name t h small =
     plain_line (codes "void") (name ∷ decimal t ∷ []) (void_are_words name t h small)
-    (omega (arith, length_spaced (codes "void") name (decimal t ∷ []), length_spaced name (decimal t) [], length_name name h, length_small t small))
+    (omega (arith, length_spaced (codes "void") name (decimal t ∷ []), length_spaced name (decimal t) [], name_short name h, length_small t small))
 
 pub join_plain : (name : List ℕ) → is_name name ≡ true → IsPlainLine (join_text name)
-join_plain name h = plain_line (codes "join") (name ∷ []) (join_are_words name h) (omega (arith, length_spaced (codes "join") name [], length_name name h))
+join_plain name h = plain_line (codes "join") (name ∷ []) (join_are_words name h) (omega (arith, length_spaced (codes "join") name [], name_short name h))
 
 pub end_is_word : IsWord (codes "end")
 end_is_word = record { some = omega arith; bytes = All-from_recursion (λ x. 36 ≤ x) (codes "end") (omega arith, (omega arith, (omega arith, tt))) }

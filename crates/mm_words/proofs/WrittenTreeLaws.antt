@@ -5,10 +5,11 @@ use Rattle.std.specs.declared.result.Result.{Result}
 use Rattle.std.specs.Fmt.{decimal, signed_decimal}
 use Rattle.std.specs.List.{IsDistinct}
 use Rattle.std.specs.Str.{bytes_eq}
-use Rattle.std.proofs.lemmas.Bool.{le-leb, lt-ltb, eq-eqb}
+use Rattle.std.proofs.lemmas.Bool.{le-leb, lt-ltb, eq-eqb, or_from, or_left, or_right}
 use Rattle.std.proofs.lemmas.List.{length-append}
 use Rattle.std.proofs.lemmas.List.Elements.{All-head}
 use Rattle.mm_base.specs.Names.{is_name}
+use Rattle.mm_base.proofs.NameLaws.{bytes_same}
 use Rattle.mm_field.specs.Vectors.{AreDigits}
 use Rattle.mm_field.specs.declared.Field.{Field}
 use Rattle.mm_lines.specs.Lines.{lines}
@@ -20,7 +21,7 @@ use Rattle.mm_tree.specs.NamedTree.{Tree, shape, boundary, depth, nodes, weights
 use Rattle.mm_tree.specs.NamedTree.Tree.{Elem, Void, Join}
 use Rattle.mm_tree.specs.TreeText.{elem_text, void_text, join_text, node_lines, tree_text}
 use Rattle.mm_tree.specs.ValidTree.{IsValidTree, most_leaves, most_depth, most_weight}
-use Rattle.mm_tree.proofs.NameLaws.{AreApart, name_same, or_left, or_right, one_of_append, distinct_apart}
+use Rattle.mm_tree.proofs.NameLaws.{AreApart, one_of_append, distinct_apart}
 use Rattle.mm_tree.proofs.TreeLaws.{few_nodes, valid_left, valid_right, shape_boundary, names_join}
 use Rattle.mm_words.specs.Readers.{Reading, Read, and_then, now, line, goes_on, each}
 use Rattle.mm_words.specs.TreeLines.{names_in, is_tree_part, tree_part, end_line, tree_lines}
@@ -28,7 +29,7 @@ use Rattle.mm_words.specs.WrittenTrees.{HoldsJoins}
 use Rattle.mm_words.specs.declared.refusal.Refusal.{Refusal}
 use Rattle.mm_words.proofs.DigitLaws.{vector_of_text}
 use Rattle.mm_words.proofs.NumeralLaws.{u32_back, i64_back}
-use Rattle.mm_words.proofs.SpacedLaws.{none_of, tokens_spaced}
+use Rattle.mm_words.proofs.SpacedLaws.{tokens_spaced}
 use Rattle.mm_words.proofs.TextLineLaws.{ArePlain, line_at, lines_at, lines_at_both, lines_of_text}
 use Rattle.mm_words.proofs.WrittenLineLaws.{IsNew, elem_are_words, void_are_words, join_are_words, end_is_word, elem_plain, void_plain, join_plain, end_plain, elem_is_part, void_is_part, join_is_part, end_is_no_part, elem_read, void_read, join_read, end_read}
 
@@ -132,7 +133,7 @@ right_apart name op left right trees d h =
     let rs = leaf_names right in
     record {
       apart = λ x e. one_of_append x ls (names_in trees)
-          ∙ none_of (is_one_of x ls) (is_one_of x (names_in trees)) (not_in_left ls rs x (is_one_of x ls) (distinct_apart ls rs d) e refl)
+          ∙ or_from (is_one_of x ls) (is_one_of x (names_in trees)) (not_in_left ls rs x (is_one_of x ls) (distinct_apart ls rs d) e refl)
           (h.apart x (one_of_append x ls rs ∙ or_right (is_one_of x ls) (is_one_of x rs) e));
       room = omega (arith, h.room, length-append ls rs, length-append ls (names_in trees));
     }
@@ -140,14 +141,14 @@ right_apart name op left right trees d h =
 elem_new : (name vec : List ℕ) (weight : ℤ) (trees : List Tree) → IsApart (Elem name vec weight) trees → IsNew name trees
 unfolding leaf_names
 elem_new name vec weight trees h = record {
-  free = h.apart name (or_left (bytes_eq name name) false (name_same name));
+  free = h.apart name (or_left (bytes_eq name name) false (bytes_same name));
   room = lt-ltb (length (names_in trees)) most_leaves (omega (arith, h.room));
 }
 
 void_new : (name : List ℕ) (t : ℕ) (trees : List Tree) → IsApart (Void name t) trees → IsNew name trees
 unfolding leaf_names
 void_new name t trees h = record {
-  free = h.apart name (or_left (bytes_eq name name) false (name_same name));
+  free = h.apart name (or_left (bytes_eq name name) false (bytes_same name));
   room = lt-ltb (length (names_in trees)) most_leaves (omega (arith, h.room));
 }
 

@@ -1,4 +1,5 @@
 use Rattle.std.proofs.Common.{◌≡◌, true, false, sym, ap, ◌∙◌}
+use Rattle.std.proofs.lemmas.Result.{IfOk-weaker}
 use Rattle.std.specs.Prelude.{codes}
 use Rattle.mm_formula.specs.Syntax.{syntax_of}
 use Rattle.mm_field.specs.declared.Field.{Field}
@@ -10,14 +11,13 @@ use Rattle.mm_job.specs.Output.{answered}
 use Rattle.mm_job.specs.Sessions.{session_of}
 use Rattle.mm_job.specs.declared.said.Said.{Said}
 use Rattle.mm_job.specs.declared.said.Said.TheVariants.{Says}
-use Rattle.mm_job.proofs.BlockLaws.{on_ok}
 use Rattle.mm_job.proofs.TruthLaws.{said_answer}
 use Rattle.mm_job.proofs.session.answer.Goals as goal
 
 pub returns-then-branch : goal.returns-then-branch
 returns-then-branch c =
     let s = c.args.session.now in
-    on_ok (λ (said : Said). said ≡ Says (codes "true")) (λ (said : Said). said ≡ answered (session_of s)) c.says.result
+    IfOk-weaker c.says.result (λ (said : Said). said ≡ Says (codes "true")) (λ (said : Said). said ≡ answered (session_of s))
     (λ said is. said_answer s.field s.tree.tree (syntax_of s.query.formula) (syntax_of c.formula.result.now) s.query.free true said
     c.requires.built c.formula.ensures.scoped (ap syntax_of c.formula.ensures.formula) (sym c.if-branch.true ∙ c.in_ok-truth.ensures ∙ ap (λ (f : Field). plain_truth (is_independent_set f (shape s.tree.tree) (everything s.tree.tree)) (syntax_of c.formula.result.now)) c.requires.tree) is)
     c.says.ensures
@@ -25,7 +25,7 @@ returns-then-branch c =
 pub returns-else-branch : goal.returns-else-branch
 returns-else-branch c =
     let s = c.args.session.now in
-    on_ok (λ (said : Said). said ≡ Says (codes "false")) (λ (said : Said). said ≡ answered (session_of s)) c.says-else-branch.result
+    IfOk-weaker c.says-else-branch.result (λ (said : Said). said ≡ Says (codes "false")) (λ (said : Said). said ≡ answered (session_of s))
     (λ said is. said_answer s.field s.tree.tree (syntax_of s.query.formula) (syntax_of c.formula.result.now) s.query.free false said
     c.requires.built c.formula.ensures.scoped (ap syntax_of c.formula.ensures.formula) (sym c.if-branch.false ∙ c.in_ok-truth.ensures ∙ ap (λ (f : Field). plain_truth (is_independent_set f (shape s.tree.tree) (everything s.tree.tree)) (syntax_of c.formula.result.now)) c.requires.tree) is)
     c.says-else-branch.ensures

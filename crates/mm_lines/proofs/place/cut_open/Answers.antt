@@ -1,10 +1,11 @@
 use Rattle.std.proofs.Common.{◌≡◌, ◌∙◌, ◌-◌, ◌+◌, ℕ, List, [], not, length, take, drop, true, false, sym, ap, refl, subst, arith}
 use Rattle.std.specs.Str.Lines.{strip_carriage_return}
 use Rattle.std.proofs.lemmas.List.{take_rest, drop_all}
+use Rattle.std.proofs.lemmas.Bool.{both_ways}
 use Rattle.mm_lines.specs.Lines.{is_too_long, is_passed_over, line_of}
 use Rattle.mm_lines.specs.Places.{Goes}
 use Rattle.mm_lines.specs.declared.place.Place.{Place}
-use Rattle.mm_lines.proofs.PlaceLaws.{goes_same, goes_long, goes_last, none_passing, none_open, begun_one, begun_last, long_is_handed_out, not_both}
+use Rattle.mm_lines.proofs.PlaceLaws.{goes_same, goes_long, goes_last, none_passing, none_open, begun_one, begun_last, long_is_handed_out}
 use Rattle.mm_lines.proofs.place.cut_open.Goals as goal
 use Rattle.mm_lines.proofs.place.cut_open.Goals.{else-ended-via-then-ended+else-place-bytes, else-ended-via-else-ended}
 
@@ -43,6 +44,6 @@ returns-clause-cut c =
     let short : is_too_long (drop p.start bytes) ≡ false = ap is_too_long (sym rest) ∙ sym c.is_too_long.ensures ∙ c.if-is_too_long.false in
     let over : c.args.ended ≡ true → drop p.start bytes ≡ [] = elim c.else-ended.branch [
       | else-ended-via-then-ended+else-place-bytes w ↦ λ h. drop_all p.start bytes w.if-place-bytes.false
-      | else-ended-via-else-ended w ↦ λ h. not_both c.args.ended h w.if-ended.false
+      | else-ended-via-else-ended w ↦ λ h. absurd (both_ways c.args.ended w.if-ended.false h)
     ] in
     (goes_same c.args.ended bytes p q refl refl refl, none_open c.args.ended bytes q c.if-place.false c.requires.clean short over, refl)

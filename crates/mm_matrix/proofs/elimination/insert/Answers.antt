@@ -1,11 +1,11 @@
-use Rattle.std.proofs.Common.{ℕ, ◌≡◌, ◌≤◌, List, ◌∷◌, length, map, sym, ap, ap₂, ◌∙◌, subst, arith}
+use Rattle.std.proofs.Common.{ℕ, ◌≡◌, ◌≤◌, List, ◌∷◌, length, map, sym, ap, ◌∙◌, subst, arith}
 use Rattle.std.proofs.lemmas.List.{length-map}
 use Rattle.mm_field.specs.Vectors.{SameRowSpace}
 use Rattle.mm_linear.specs.Eliminate.{cleared}
+use Rattle.mm_linear.proofs.PivotLaws.{count_leads}
 use Rattle.mm_matrix.specs.Rests.{AreReduced, IsPlaceOf}
 use Rattle.mm_matrix.proofs.RowLaws.{digits_of, rows-insert, written_to, length-written}
-use Rattle.mm_matrix.proofs.RestLaws.{count_leads}
-use Rattle.mm_matrix.proofs.InsertionLaws.{with_row, with_lead, inserted_reduced, span-with_row}
+use Rattle.mm_matrix.proofs.InsertionLaws.{with_row, inserted_reduced, span-with_row}
 use Rattle.mm_matrix.proofs.elimination.insert.Goals as goal
 
 pub clear_first-requires-clause-count : goal.clear_first-requires-clause-count

@@ -1,11 +1,11 @@
 use Rattle.std.proofs.Common.{ℕ, ◌<◌, ◌≡◌, ◌+◌, [], length, get_or, map, sym, ap, ap₂, ◌∙◌, subst, arith, List}
-use Rattle.std.proofs.lemmas.List.{length-map}
-use Rattle.mm_field.specs.Digits.{order, negative}
-use Rattle.mm_field.specs.Vectors.{IsVector, vector_sum, multiple}
+use Rattle.std.proofs.lemmas.List.{length-map, get_or_default}
+use Rattle.mm_field.specs.Vectors.{IsVector}
 use Rattle.mm_linear.specs.Eliminate.{cleared}
 use Rattle.mm_linear.proofs.LeftUnique.{leads_above}
-use Rattle.mm_matrix.proofs.RowLaws.{digits_of, item_is, item_vector, get_or_same}
-use Rattle.mm_matrix.proofs.RestLaws.{IsRestUpTo, count_leads, rest_at_start, rest_step, rest_at_end}
+use Rattle.mm_linear.proofs.PivotLaws.{count_leads}
+use Rattle.mm_matrix.proofs.RowLaws.{digits_of, item_is, item_vector}
+use Rattle.mm_matrix.proofs.RestLaws.{IsRestUpTo, rest_at_start, rest_step, rest_at_end}
 use Rattle.mm_matrix.proofs.elimination.reduce.Goals as goal
 
 pub loop-i-init : goal.loop-i-init
@@ -48,7 +48,7 @@ loop-i-preserved c =
     let is_row : get_or (map digits_of c.args.rows.now.items) c.loop-i.i [] ≡ c.deref.result.now =
     item_is c.args.rows.now.items c.loop-i.i c.index-in-loop-i.result.now l c.index-in-loop-i.ensures ∙ sym c.deref.ensures.value in
     let is_lead : get_or c.args.leads.now.items c.loop-i.i 0 ≡ c.index.result.now =
-    get_or_same c.args.leads.now.items c.loop-i.i 0 c.index.result.now (omega (arith, e, m)) ∙ sym c.index.ensures in
+    get_or_default c.args.leads.now.items c.loop-i.i 0 c.index.result.now (omega (arith, e, m)) ∙ sym c.index.ensures in
     subst (λ (u : List ℕ). IsRestUpTo c.args.f (length c.args.v.now) (map digits_of c.args.rows.now.items) c.args.leads.now.items c.args.v.now u (c.loop-i.i + 1))
     (ap₂ (λ (p : ℕ) (r : List ℕ). cleared c.args.f p r c.loop-i.v) is_lead is_row ∙ sym c.clear_row.ensures)
     (rest_step c.args.f (length c.args.v.now) c.loop-i.i (map digits_of c.args.rows.now.items) c.args.leads.now.items c.args.v.now c.loop-i.v

@@ -1,5 +1,5 @@
-use Rattle.std.proofs.Common.{ℕ, ◌≡◌, List, [], ◌∷◌, ◌++◌, Bool, true, false, cond, length, map, sym, ap, ap₂, ◌∙◌, subst, Contains, rules, refl}
-use Rattle.std.specs.Bool.{IsTrue}
+use Rattle.std.proofs.Common.{ℕ, ◌≡◌, List, [], ◌∷◌, ◌++◌, Bool, true, false, cond, map, sym, ap, ◌∙◌, subst, Contains, refl}
+use Rattle.std.proofs.lemmas.Bool.{both_ways, false_from_ne_true}
 use Rattle.std.specs.Result.{OnOk}
 use Rattle.mm_field.specs.declared.Field.{Field}
 use Rattle.mm_field.specs.Vectors.{IsVector}
@@ -12,18 +12,6 @@ use Rattle.mm_matrix.proofs.NullLaws.{IsVector-projected, leads_inside}
 use Rattle.mm_matrix.proofs.FreeLaws.{is_lead}
 use Rattle.mm_matrix.proofs.orthogonality.add_null_row.Goals as goal
 
-is_true : (b : Bool) → b ≡ true → IsTrue b
-is_true true e = search rules
-is_true false e = cc
-
-is_false : (b : Bool) → b ≡ false → IsTrue b → ⊥
-is_false true e t = cc
-is_false false e t = search rules
-
-not_true : (b : Bool) → (b ≡ true → ⊥) → b ≡ false
-not_true true n = absurd (n refl)
-not_true false n = refl
-
 no_rows : (xs : List (List ℕ)) → xs ≡ xs ++ []
 no_rows [] = refl
 no_rows (x ∷ xs) = ap (λ (z : List (List ℕ)). x ∷ z) (no_rows xs)
@@ -34,7 +22,7 @@ returns-then-is_lead c =
     let rows = map digits_of c.args.rows.now.items in
     let ks = c.args.leads.now.items in
     let at : Contains ks c.args.j =
-    subst (λ (x : List ℕ). Contains x c.args.j) c.deref.ensures.value (c.is_lead.ensures.0 (is_true c.is_lead.result c.if-is_lead.true)) in
+    subst (λ (x : List ℕ). Contains x c.args.j) c.deref.ensures.value (c.is_lead.ensures.0 c.if-is_lead.true) in
     let pivot = (is_lead c.args.f null.cols c.args.j rows ks c.requires.reduced c.requires.column).1 at in
     ap (λ (x : List (List ℕ)). record { f = null.f; cols = null.cols; rows = x })
     (no_rows null.rows ∙ ap (λ (b : Bool). null.rows ++ cond b [] (null_row c.args.f null.cols rows ks c.args.j ∷ [])) (sym pivot))
@@ -62,8 +50,8 @@ returns c =
     let j = c.args.j in
     let is : c.deref-2.result.now ≡ null_row f n rows ks j =
     c.deref-2.ensures.value ∙ c.in_ok-row.ensures ∙ ap (λ (k : ℕ). null_row f k rows ks j) c.cols.ensures in
-    let free : is_pivot f rows j ≡ false = not_true (is_pivot f rows j) (λ p.
-    is_false c.is_lead.result c.if-is_lead.false (c.is_lead.ensures.1
+    let free : is_pivot f rows j ≡ false = false_from_ne_true (is_pivot f rows j) (λ p.
+    both_ways c.is_lead.result c.if-is_lead.false (c.is_lead.ensures.1
     (subst (λ (x : List ℕ). Contains x j) (sym c.deref.ensures.value) ((is_lead f n j rows ks c.requires.reduced c.requires.column).0 p)))) in
     let more : null.rows ++ (c.deref-2.result.now ∷ []) ≡ null.rows ++ null_row_at f n rows ks j =
     ap (λ (x : List ℕ). null.rows ++ (x ∷ [])) is ∙ ap (λ (b : Bool). null.rows ++ cond b [] (null_row f n rows ks j ∷ [])) (sym free) in

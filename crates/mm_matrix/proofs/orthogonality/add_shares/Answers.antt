@@ -1,15 +1,15 @@
-use Rattle.std.proofs.Common.{ℕ, ◌≡◌, ◌<◌, ◌≤◌, ◌+◌, List, [], length, get_or, map, refl, sym, ap, ap₂, ◌∙◌, subst, arith}
-use Rattle.std.proofs.lemmas.List.{length-map, get_or-map}
-use Rattle.mm_field.specs.Digits.{order, negative}
+use Rattle.std.proofs.Common.{ℕ, ◌≡◌, ◌<◌, ◌≤◌, ◌+◌, List, [], length, get_or, map, sym, ap, ◌∙◌, subst, arith}
+use Rattle.std.proofs.lemmas.List.{length-map, get_or-map, get_or_default}
+use Rattle.mm_field.specs.Digits.{negative}
 use Rattle.mm_field.specs.Vectors.{IsVector, vector_sum, multiple}
 use Rattle.mm_field.proofs.VectorLaws.{length-multiple, IsVector-vector_sum}
 use Rattle.mm_linear.specs.Coordinates.{unit}
 use Rattle.mm_linear.proofs.BasisLaws.{IsVector-unit}
 use Rattle.mm_linear.proofs.LeftUnique.{leads_above}
+use Rattle.mm_linear.proofs.PivotLaws.{count_leads}
 use Rattle.mm_matrix.specs.Orthogonal.{dot}
 use Rattle.mm_matrix.specs.Projections.{shares, left}
-use Rattle.mm_matrix.proofs.RowLaws.{digits_of, item_is, item_vector, get_or_same}
-use Rattle.mm_matrix.proofs.RestLaws.{count_leads}
+use Rattle.mm_matrix.proofs.RowLaws.{digits_of, item_is, item_vector}
 use Rattle.mm_matrix.proofs.DotLaws.{dot-unit}
 use Rattle.mm_matrix.proofs.ShareLaws.{share_step, shares_done}
 use Rattle.mm_matrix.proofs.orthogonality.add_shares.Goals as goal
@@ -68,8 +68,8 @@ loop-i-preserved c =
     let r = c.index-in-loop-i.result.now in
     let v = item_vector f n c.args.rows.now.items c.requires.reduced.each i r l c.index-in-loop-i.ensures in
     let size = c.loop-i.invariant.vector.len in
-    let at_lead : get_or ks i 0 ≡ p = get_or_same ks i 0 p lk ∙ sym c.index.ensures in
-    let digit : get_or r.items j 0 ≡ c.index-in-loop-i-2.result.now = get_or_same r.items j 0 c.index-in-loop-i-2.result.now (omega (arith, v.len, lj)) ∙ sym c.index-in-loop-i-2.ensures in
+    let at_lead : get_or ks i 0 ≡ p = get_or_default ks i 0 p lk ∙ sym c.index.ensures in
+    let digit : get_or r.items j 0 ≡ c.index-in-loop-i-2.result.now = get_or_default r.items j 0 c.index-in-loop-i-2.result.now (omega (arith, v.len, lj)) ∙ sym c.index-in-loop-i-2.ensures in
     let is_share : get_or (shares f rows (unit n j)) i 0 ≡ share =
     get_or-map (λ u. negative f (dot f u (unit n j))) rows i [] 0 lr
     ∙ ap (λ (u : List ℕ). negative f (dot f u (unit n j))) (item_is c.args.rows.now.items i r l c.index-in-loop-i.ensures)

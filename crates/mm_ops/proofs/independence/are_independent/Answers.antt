@@ -1,28 +1,14 @@
-use Rattle.std.proofs.Common.{ℕ, suc, ◌≡◌, ◌<◌, ◌≤◌, ◌-◌, Bool, true, false, List, [], ◌∷◌, length, drop, get_or, sym, ap, ◌∙◌, subst, arith, rules}
-use Rattle.std.proofs.Math.Seq.{drop-cons}
+use Rattle.std.proofs.Common.{ℕ, ◌≡◌, ◌≤◌, ◌-◌, true, false, List, [], ◌∷◌, length, drop, get_or, sym, ap, ◌∙◌, subst, arith}
 use Rattle.std.proofs.lemmas.List.{drop_all}
 use Rattle.std.proofs.lemmas.List.Elements.{All-drop, All-cons}
-use Rattle.std.specs.Bool.{IsTrue}
+use Rattle.std.proofs.lemmas.Bool.{both_ways}
 use Rattle.mm_field.specs.Vectors.{IsVector, InSpan}
 use Rattle.mm_linear.specs.Decide.{is_independent}
+use Rattle.mm_linear.proofs.DecideLaws.{no_rows_independent}
+use Rattle.mm_linear.proofs.SumLaws.{next_rows}
 use Rattle.mm_space.specs.SpaceValue.{IsIn, IsSpanOf}
-use Rattle.mm_ops.proofs.IndependenceSteps.{one_more, one_too_many, dependent_tail, no_rows_independent, in_span_of, span_with}
+use Rattle.mm_ops.proofs.IndependenceSteps.{one_more, one_too_many, dependent_tail, in_span_of, span_with}
 use Rattle.mm_ops.proofs.independence.are_independent.Goals as goal
-
-is_true : (b : Bool) → b ≡ true → IsTrue b
-is_true true e = search rules
-is_true false e = cc
-
-is_false : (b : Bool) → b ≡ false → IsTrue b → ⊥
-is_false true e t = cc
-is_false false e t = search rules
-
--- the rows from k - 1 on
-one_before : (g : List (List ℕ)) (k : ℕ) → 0 < k → k ≤ length g → drop (k - 1) g ≡ get_or g (k - 1) [] ∷ drop k g
-one_before g k p l =
-    let m : k - 1 < length g = omega arith in
-    let s : suc (k - 1) ≡ k = omega arith in
-    drop-cons g (k - 1) [] m ∙ ap (λ (x : ℕ). get_or g (k - 1) [] ∷ drop x g) s
 
 pub loop-k-init : goal.loop-k-init
 loop-k-init c =
@@ -39,12 +25,12 @@ returns-then-contains c =
     let g = c.args.g.now in
     let k = c.loop-k.k in
     let within : k ≤ length g = omega (arith, c.rows-k.ensures) in
-    let more = one_before g k (omega arith) within in
+    let more = next_rows g k (omega arith) within in
     let rest = All-drop (λ v. IsVector f r v) k g c.requires.rows in
     let hv : IsVector f r (get_or g (k - 1) []) = c.requires.rows (k - 1) [] (omega arith) in
     let inside : InSpan f r (drop k g) (get_or g (k - 1) []) =
     (in_span_of f r (drop k g) c.loop-k.span (get_or g (k - 1) []) rest c.loop-k.invariant.span).0
-    (subst (λ (v : List ℕ). IsIn c.loop-k.span v) c.row-row.ensures (c.contains.ensures.0 (is_true c.contains.result c.if-contains.true))) in
+    (subst (λ (v : List ℕ). IsIn c.loop-k.span v) c.row-row.ensures (c.contains.ensures.0 c.if-contains.true)) in
     sym (dependent_tail f r (k - 1) g c.requires.rows
     (ap (is_independent f r) more
     ∙ one_too_many f r (get_or g (k - 1) []) (drop k g) (All-cons (λ v. IsVector f r v) (get_or g (k - 1) []) (drop k g) hv rest) inside))
@@ -56,12 +42,12 @@ loop-k-preserved c =
     let g = c.args.g.now in
     let k = c.loop-k.k in
     let within : k ≤ length g = omega (arith, c.rows-k.ensures) in
-    let more = one_before g k (omega arith) within in
+    let more = next_rows g k (omega arith) within in
     let rest = All-drop (λ v. IsVector f r v) k g c.requires.rows in
     let v = get_or g (k - 1) [] in
     let hv : IsVector f r v = c.requires.rows (k - 1) [] (omega arith) in
     let outside : InSpan f r (drop k g) v → ⊥ = λ p.
-    is_false c.contains.result c.if-contains.false (c.contains.ensures.1
+    both_ways c.contains.result c.if-contains.false (c.contains.ensures.1
     (subst (λ (u : List ℕ). IsIn c.loop-k.span u) (sym c.row-row.ensures)
     ((in_span_of f r (drop k g) c.loop-k.span v rest c.loop-k.invariant.span).1 p))) in
     let new : IsSpanOf c.loop-k.span.f c.loop-k.span.r (v ∷ c.loop-k.span.rows) c.add_vector.new.self =

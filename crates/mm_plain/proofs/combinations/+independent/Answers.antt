@@ -2,8 +2,9 @@ use Rattle.std.proofs.Common.{◌≡◌, not, ◌&&◌, length, take, drop, ◌-
 use Rattle.mm_field.specs.Vectors.{AreVectors}
 use Rattle.mm_field.proofs.CombinationLaws.{first_row, other_rows}
 use Rattle.mm_linear.specs.Decide.{is_in_span, is_independent}
+use Rattle.mm_linear.proofs.DecideLaws.{no_rows_independent}
 use Rattle.mm_plain.specs.Rows.{rows_of}
-use Rattle.mm_plain.proofs.SpanLemmas.{rows_split, rows_none, independent_first, none_independent}
+use Rattle.mm_plain.proofs.SpanLemmas.{rows_split, rows_none, independent_first}
 use Rattle.mm_plain.proofs.combinations.+independent.Goals as goal
 
 pub independent-requires : goal.independent-requires
@@ -23,7 +24,7 @@ in_span-requires-clause-rows t c =
     subst (λ n. AreVectors c.args.f n others) (sym hv.len ∙ sym (ap length c.deref.ensures.value)) (other_rows c.args.f c.args.n c.first-item.result.items others h)
 
 pub returns-in-empty : goal.returns-in-empty
-returns-in-empty t c = sym (none_independent c.args.f c.args.n) ∙ ap (is_independent c.args.f c.args.n) (sym (rows_none c.args.rows.now c.in-empty.len_below))
+returns-in-empty t c = sym (no_rows_independent c.args.f c.args.n) ∙ ap (is_independent c.args.f c.args.n) (sym (rows_none c.args.rows.now c.in-empty.len_below))
 
 pub returns-in_ok-in_span-in-len1-up : goal.returns-in_ok-in_span-in-len1-up
 returns-in_ok-in_span-in-len1-up t c =

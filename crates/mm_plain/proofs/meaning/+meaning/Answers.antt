@@ -1,6 +1,7 @@
 use Rattle.std.proofs.Common.{rules, arith, ◌≡◌, ◌<◌, Bool, false, true, ◌&&◌, List, [], map, length, All, slice_index_or, sym, ap, ap₂, ◌∙◌, subst}
 use Rattle.std.specs.List.{list_any, list_all}
 use Rattle.std.proofs.lemmas.List.{length-map}
+use Rattle.std.proofs.lemmas.List.Folds.{list_all-map}
 use Rattle.mm_logic.specs.Formula as formula
 use Rattle.mm_logic.specs.Marks as marks_spec
 use Rattle.mm_logic.specs.Meaning as meaning
@@ -10,7 +11,7 @@ use Rattle.mm_laws.proofs.SplitLemmas.{length-assign}
 use Rattle.mm_laws.proofs.LeastLemmas.{length-sets}
 use Rattle.mm_plain.specs.Trees.{tree_of}
 use Rattle.mm_plain.specs.Formulas.{formula_of, inner_nodes, SlotsBelow, marks_of, tests_of}
-use Rattle.mm_plain.proofs.AssignmentLemmas.{length-singles, list_all-map, set_length, test_at, some_passes, one_fails}
+use Rattle.mm_plain.proofs.AssignmentLemmas.{length-singles, set_length, test_at, some_passes, one_fails}
 use Rattle.mm_plain.proofs.meaning.+meaning.Goals as goal
 
 pub holds-holds_for_some-requires : goal.holds-holds_for_some-requires

@@ -3,8 +3,8 @@ use Rattle.std.specs.List.{range_with_len}
 use Rattle.std.proofs.lemmas.List.{flat_map_more}
 use Rattle.mm_field.specs.Digits.{order}
 use Rattle.mm_plain.specs.Rows.{rows_of}
-use Rattle.mm_plain.proofs.ColumnLemmas.{one_more}
 use Rattle.mm_plain.proofs.spaces.after_each_digit.Goals as goal
+use Rattle.mm_linear.proofs.BasisLaws.{range_one_more}
 
 pub loop-digit-preserved : goal.loop-digit-preserved
 loop-digit-preserved c =
@@ -13,7 +13,7 @@ loop-digit-preserved c =
     c.in_ok-push_after_digit.ensures
     ∙ ap (λ xs. xs ++ each d) c.loop-digit.invariant
     ∙ flat_map_more each [] (range_with_len 0 d) d
-    ∙ ap (flat_map each) (sym (one_more d))
+    ∙ ap (flat_map each) (sym (range_one_more d))
 
 pub returns : goal.returns
 returns c =

@@ -2,8 +2,9 @@ use Rattle.std.proofs.Common.{◌≡◌, true, false, not, cond, [], ◌∷◌, 
 use Rattle.std.specs.List.{range_with_len}
 use Rattle.std.proofs.lemmas.List.{map_push}
 use Rattle.mm_linear.specs.Coordinates.{unit, is_pivot}
+use Rattle.mm_linear.proofs.BasisLaws.{free_next}
 use Rattle.mm_plain.specs.Rows.{rows_of}
-use Rattle.mm_plain.proofs.ColumnLemmas.{cut_at_length, free_next}
+use Rattle.mm_plain.proofs.ColumnLemmas.{cut_at_length}
 use Rattle.mm_plain.proofs.tree.completed.Goals as goal
 use Rattle.mm_plain.proofs.tree.completed.Goals.{then-not-branch+in_ok-unit+in_ok-push, else-not-branch}
 

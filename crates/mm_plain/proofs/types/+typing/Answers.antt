@@ -1,6 +1,7 @@
 use Rattle.std.proofs.Common.{rules, ◌≡◌, ◌<◌, ◌&&◌, Bool, false, List, [], ◌∷◌, ◌++◌, if◌then◌else◌, map, length, All, take, get_or, sym, ap, ap₂, ◌∙◌, subst}
 use Rattle.std.specs.List.{list_any}
 use Rattle.std.proofs.lemmas.List.{length-map, map-append, map_push}
+use Rattle.std.proofs.lemmas.List.Folds.{list_all-map}
 use Rattle.mm_logic.specs.AtomValues as atoms
 use Rattle.mm_logic.specs.Formula as formula
 use Rattle.mm_logic.specs.Marks as marks_spec
@@ -13,7 +14,7 @@ use Rattle.mm_laws.proofs.LeastLemmas.{length-sets}
 use Rattle.mm_plain.specs.Trees.{tree_of}
 use Rattle.mm_plain.specs.Formulas.{formula_of, marks_of, tests_of}
 use Rattle.mm_plain.specs.Values.{value_of, values_of}
-use Rattle.mm_plain.proofs.AssignmentLemmas.{length-singles, list_all-map, set_length, test_at, take_next}
+use Rattle.mm_plain.proofs.AssignmentLemmas.{length-singles, set_length, test_at, take_next}
 use Rattle.mm_plain.proofs.types.+typing.Goals as goal
 
 pub elem_type-read_type-requires : goal.elem_type-read_type-requires

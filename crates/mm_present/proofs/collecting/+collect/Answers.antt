@@ -1,4 +1,5 @@
 use Rattle.std.proofs.Common.{◌≡◌, ◌<◌, ◌≤◌, ◌+◌, ◌-◌, ℕ, map, reverse, ◌++◌, sym, ap, ap₂, subst, ◌∙◌, arith}
+use Rattle.std.proofs.lemmas.Result.{IfOk-weaker, on_ok_weaker}
 use Rattle.std.specs.List.{range_with_len}
 use Rattle.mm_logic.specs.Tree as shapes
 use Rattle.mm_matrix.specs.MatrixValue.{MatrixValue}
@@ -7,7 +8,7 @@ use Rattle.mm_tree.specs.Nodes.{named, named_leaf, IsOver}
 use Rattle.mm_present.specs.Joining.{placed_rows, joined_row, widened}
 use Rattle.mm_logic.specs.PresentMatrix.{internal}
 use Rattle.mm_present.proofs.TreeRows.{part}
-use Rattle.mm_present.proofs.NodeLaws.{if_ok, on_ok, always_ok, at_join, part_is, join_part, join_collected, leaf_collected, leaf_internal, node_of_leaf, nodes_at_join}
+use Rattle.mm_present.proofs.NodeLaws.{always_ok, at_join, part_is, join_part, join_collected, leaf_collected, leaf_internal, node_of_leaf, nodes_at_join}
 use Rattle.mm_present.proofs.collecting.+collect.Goals as goal
 
 pub leaf_rows-requires : goal.leaf_rows-requires
@@ -140,8 +141,7 @@ join_rows-requires-clause-room t c =
 pub returns-in-Leaf-clause-boundary : goal.returns-in-Leaf-clause-boundary
 returns-in-Leaf-clause-boundary t c =
     let f = c.args.f in
-    if_ok (λ (m : MatrixValue). m ≡ part f (shape (named_leaf c.in-Leaf.leaf))) (λ (m : MatrixValue). m ≡ part f (shape (named c.args.node.now)))
-    c.leaf_rows.result (λ m e. e ∙ ap (λ x. part f (shape x)) (sym (node_of_leaf c.args.node.now c.in-Leaf.leaf c.in-Leaf.is))) c.leaf_rows.ensures
+    IfOk-weaker c.leaf_rows.result (λ (m : MatrixValue). m ≡ part f (shape (named_leaf c.in-Leaf.leaf))) (λ (m : MatrixValue). m ≡ part f (shape (named c.args.node.now))) (λ m e. e ∙ ap (λ x. part f (shape x)) (sym (node_of_leaf c.args.node.now c.in-Leaf.leaf c.in-Leaf.is))) c.leaf_rows.ensures
 
 pub returns-in-Leaf-clause-internal : goal.returns-in-Leaf-clause-internal
 returns-in-Leaf-clause-internal t c =
@@ -168,8 +168,7 @@ returns-in_ok-first-in-Join-clause-boundary t c =
     let first = c.in_ok-first-in-Join.first in
     let second = c.in_ok-second-in-Join.second in
     let T = shape (named c.args.node.now) in
-    if_ok (λ (m : MatrixValue). m ≡ record { f = op.f; cols = first.cols + second.cols; rows = map (joined_row op first second) (range_with_len 0 op.op.t3) })
-    (λ (m : MatrixValue). m ≡ part f T) c.join_rows.result
+    IfOk-weaker c.join_rows.result (λ (m : MatrixValue). m ≡ record { f = op.f; cols = first.cols + second.cols; rows = map (joined_row op first second) (range_with_len 0 op.op.t3) }) (λ (m : MatrixValue). m ≡ part f T)
     (λ m e. join_part f op T L R first second m j.field j.shape_is j.valid first_is second_is e)
     c.join_rows.ensures.boundary
 
@@ -203,8 +202,7 @@ returns-in_ok-first-in-Join-clause-internal t c =
     subst (λ w. (b : ℕ) → b + (shapes.size L + (after + w)) ≡ total → last ≡ mid ++ reverse (placed_rows f b (after + w) L)) width
     (subst (λ x. (b : ℕ) → b + (shapes.size (shape (named x)) + (after + c.cols.result)) ≡ total
     → last ≡ mid ++ reverse (placed_rows f b (after + c.cols.result) (shape (named x)))) c.deref-in-Join.ensures c.in_ok-first-in-Join.ensures.internal) in
-    on_ok (new ≡ last ++ reverse (map (widened at after) (map (joined_row op first second) (range_with_len op.op.t3 op.op.c))))
-    ((before : ℕ) → before + (shapes.size T + after) ≡ total → new ≡ old ++ reverse (placed_rows f before after T)) c.join_rows.result
+    on_ok_weaker {P = new ≡ last ++ reverse (map (widened at after) (map (joined_row op first second) (range_with_len op.op.t3 op.op.c)))} {Q = (before : ℕ) → before + (shapes.size T + after) ≡ total → new ≡ old ++ reverse (placed_rows f before after T)} c.join_rows.result
     (λ e before e_total. join_collected f op T L R first second at before after total old mid last new j.field j.shape_is j.valid first_is second_is
     (ap₂ (λ x y. total - (after + x) - y) width width_left) e_total mid_is last_is e)
     c.join_rows.ensures.internal

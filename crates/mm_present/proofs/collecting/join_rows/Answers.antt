@@ -1,10 +1,11 @@
 use Rattle.std.proofs.Common.{◌≡◌, ◌+◌, map, reverse, ◌++◌, ap, ap₂, ◌∙◌}
+use Rattle.std.proofs.lemmas.Result.{IfOk-weaker}
 use Rattle.std.specs.List.{range_with_len}
 use Rattle.mm_matrix.specs.MatrixValue.{MatrixValue}
 use Rattle.mm_present.specs.Joining.{join_row, joined_row, widened}
 use Rattle.mm_present.proofs.RangeLaws.{same_range}
 use Rattle.mm_present.proofs.SideLaws.{side_is, join_row_is}
-use Rattle.mm_present.proofs.NodeLaws.{if_ok, always_ok}
+use Rattle.mm_present.proofs.NodeLaws.{always_ok}
 use Rattle.mm_present.proofs.collecting.join_rows.Goals as goal
 
 pub push_internal-requires-clause-left : goal.push_internal-requires-clause-left
@@ -30,9 +31,7 @@ returns-clause-boundary c =
     let r = c.args.right in
     let left = c.in_ok-left.left in
     let right = c.in_ok-left.right in
-    if_ok (λ (m : MatrixValue). m ≡ record { f = op.f; cols = left.rows.cols + right.rows.cols; rows = map (join_row left right) (range_with_len 0 op.op.t3) })
-    (λ (m : MatrixValue). m ≡ record { f = op.f; cols = l.cols + r.cols; rows = map (joined_row op l r) (range_with_len 0 op.op.t3) })
-    c.boundary_of_join.result
+    IfOk-weaker c.boundary_of_join.result (λ (m : MatrixValue). m ≡ record { f = op.f; cols = left.rows.cols + right.rows.cols; rows = map (join_row left right) (range_with_len 0 op.op.t3) }) (λ (m : MatrixValue). m ≡ record { f = op.f; cols = l.cols + r.cols; rows = map (joined_row op l r) (range_with_len 0 op.op.t3) })
     (λ m e. e ∙ ap₂ (λ (a b : MatrixValue). record { f = op.f; cols = a.cols + b.cols; rows = map (join_row left right) (range_with_len 0 op.op.t3) })
     c.in_ok-left.ensures.left.0 c.in_ok-left.ensures.right.0
     ∙ ap (λ rows. record { f = op.f; cols = l.cols + r.cols; rows = rows })

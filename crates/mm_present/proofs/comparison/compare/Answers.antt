@@ -2,13 +2,13 @@ use Rattle.std.proofs.Common.{All, ◌≡◌, length, map, position, sym, ap, ap
 use Rattle.std.specs.Str.{bytes_eq}
 use Rattle.std.specs.List.{IsDistinct}
 use Rattle.std.proofs.lemmas.List.{length-map}
+use Rattle.std.proofs.lemmas.Result.{IfOk-weaker}
 use Rattle.mm_present.specs.Ordering.{IsPlaceBelow}
 use Rattle.mm_matrix.specs.MatrixValue.{MatrixValue}
 use Rattle.mm_tree.specs.NamedTree.{element_names}
 use Rattle.mm_present.specs.Comparing.{Named, compared, compared_rows, digit_at, first_missing}
 use Rattle.mm_present.proofs.CompareLaws.{given_missing, element_missing, same_elements, places_below}
 use Rattle.mm_present.proofs.NameLaws.{count_elements}
-use Rattle.mm_present.proofs.NodeLaws.{if_ok}
 use Rattle.mm_present.proofs.comparison.compare.Goals as goal
 
 pub set_of-requires-2 : goal.set_of-requires-2
@@ -77,7 +77,7 @@ returns c =
     ∙ ap₂ (λ keys others. map (λ name. position (bytes_eq name) keys) others) c.in_ok-given_names.ensures c.in_ok-elements.ensures.names in
     let ordered = c.in_ok-ordered.ordered in
     let present = c.in_ok-present.present.rows in
-    if_ok (λ v. v ≡ compared_rows ordered.f ordered.cols ordered.rows present.rows) (λ v. v ≡ compared c.args.tree.now.f given tree) c.compare_rows.result
+    IfOk-weaker c.compare_rows.result (λ v. v ≡ compared_rows ordered.f ordered.cols ordered.rows present.rows) (λ v. v ≡ compared c.args.tree.now.f given tree)
     (λ v e. same_elements c.args.tree.now.f given tree c.deref.result.now ordered present v c.requires.different
     (subst (λ xs. IsDistinct bytes_eq xs) c.in_ok-elements.ensures.names c.in_ok-elements.ensures.different)
     (sym first ∙ c.in_default.is) (sym second ∙ c.in_default-first_missing.is) places

@@ -1,7 +1,7 @@
 use Rattle.std.proofs.Common.{◌≡◌, ℕ, get_or, map, Option, None, sym, ap, ◌∙◌, arith}
 use Rattle.mm_present.specs.Comparing.{digit_at}
-use Rattle.std.proofs.lemmas.List.{take_all}
-use Rattle.mm_present.proofs.CompareLaws.{next_place, same_default}
+use Rattle.std.proofs.lemmas.List.{take_all, get_or_default}
+use Rattle.mm_present.proofs.CompareLaws.{next_place}
 use Rattle.mm_present.proofs.comparison.digits_at.Goals as goal
 use Rattle.mm_present.proofs.comparison.digits_at.Goals.{in-Some, in-None}
 
@@ -17,7 +17,7 @@ loop-k-preserved c =
     ] in
     c.in_ok-push.ensures.items
     ∙ next_place (digit_at row) places k here c.match-places-k.digit c.loop-k.digits.items (omega arith)
-    (same_default places k None here (omega arith)) digit c.loop-k.invariant
+    (get_or_default places k None here (omega arith)) digit c.loop-k.invariant
 
 pub returns : goal.returns
 returns c = c.loop-k.invariant ∙ ap (map (digit_at c.args.row.now)) (take_all c.loop-k.k c.args.places.now (omega arith))

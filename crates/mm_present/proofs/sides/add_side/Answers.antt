@@ -4,8 +4,8 @@ use Rattle.std.proofs.lemmas.List.Elements.{All-drop}
 use Rattle.mm_field.specs.Vectors.{AreDigits, IsVector, vector_sum, multiple}
 use Rattle.mm_field.proofs.CombinationLaws.{IsVector-combination}
 use Rattle.mm_present.specs.RowForm.{row_of}
-use Rattle.mm_present.proofs.SideLaws.{sum_start, sum_step}
 use Rattle.mm_present.proofs.sides.add_side.Goals as goal
+use Rattle.mm_space.proofs.Gathering.{times_start, times_step}
 
 pub loop-i-init : goal.loop-i-init
 loop-i-init c =
@@ -15,7 +15,7 @@ loop-i-init c =
     let rows = c.rows-i.ensures.count in
     record {
       low = omega arith;
-      out_is = c.requires.zero ∙ sum_start s.rows.f s.rows.cols c.rows-i.result (row_of s.digits.rows c.args.k) s.rows.rows (omega arith);
+      out_is = c.requires.zero ∙ times_start s.rows.f s.rows.cols c.rows-i.result (row_of s.digits.rows c.args.k) s.rows.rows (omega arith);
     }
 
 pub axpy-requires-clause-digits_y : goal.axpy-requires-clause-digits_y
@@ -36,7 +36,7 @@ loop-i-preserved c =
     let x = c.row-in-loop-i.result.now in
     record {
       low = omega arith;
-      out_is = sum_step s.rows.f s.rows.cols (row_of s.digits.rows k) s.rows.rows c.loop-i.i c.loop-i.out
+      out_is = times_step s.rows.f s.rows.cols (row_of s.digits.rows k) s.rows.rows c.loop-i.i c.loop-i.out
           a x c.axpy.new.y (omega arith) (omega arith) (omega arith)
           c.loop-i.invariant.out_is
           (ap (λ u. get_or u k 0) c.row.ensures.value ∙ sym (get_or-map (λ u. get_or u k 0) s.digits.rows (c.loop-i.i - 1) [] 0 (omega arith)))

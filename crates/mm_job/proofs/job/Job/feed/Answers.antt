@@ -1,10 +1,11 @@
 use Rattle.std.proofs.Common.{ℕ, ◌-◌, ◌<◌, ◌≤◌, List, ◌++◌, length, take, ap, sym, subst, ◌∙◌, arith}
+use Rattle.std.proofs.lemmas.Result.{on_ok_weaker, on_err_weaker}
 use Rattle.mm_lines.specs.Lines.{most_bytes, settled}
 use Rattle.mm_job.specs.Jobs.{Grew, GrewByFront, progress, with_piece}
 use Rattle.mm_job.specs.Output.{Over, settled_output, status_of, told}
 use Rattle.mm_job.specs.Standing.{written_at}
 use Rattle.mm_job.specs.declared.progress.Progress.TheVariants.{Ended}
-use Rattle.mm_job.proofs.JobLaws.{err_as, fits, last_output, last_progress, ok_as, room_of, value_as}
+use Rattle.mm_job.proofs.JobLaws.{fits, last_output, last_progress, room_of, value_as}
 use Rattle.mm_job.proofs.job.Job.feed.Goals as goal
 
 pub returns-then-piece-room-clause-progress : goal.returns-then-piece-room-clause-progress
@@ -23,7 +24,7 @@ returns-then-piece-room-clause-wrote g c =
     let room = most_bytes - c.self.inside.taken in
     let long : room < length piece = omega (arith, c.if-piece-room.true) in
     let R : List ℕ → Type 0 = λ l. Grew (g.K.Sink.held c.args.out.now) (g.K.Sink.held c.feed_last.new.out) (settled_output s.text s.limit) l in
-    ok_as (R (written_at Over s.limit (s.text ++ take room piece))) (R (settled_output (with_piece s.text piece) s.limit)) c.feed_last.result
+    on_ok_weaker {P = R (written_at Over s.limit (s.text ++ take room piece))} {Q = R (settled_output (with_piece s.text piece) s.limit)} c.feed_last.result
     (subst R (last_output s room piece (room_of c.self.inside s c.self.view_is c.requires.live c.self.invariant) long)) c.feed_last.ensures.wrote
 
 pub returns-then-piece-room-clause-front : goal.returns-then-piece-room-clause-front
@@ -33,7 +34,7 @@ returns-then-piece-room-clause-front g c =
     let room = most_bytes - c.self.inside.taken in
     let long : room < length piece = omega (arith, c.if-piece-room.true) in
     let R : List ℕ → Type 0 = λ l. GrewByFront (g.K.Sink.held c.args.out.now) (g.K.Sink.held c.feed_last.new.out) (settled_output s.text s.limit) l in
-    err_as (R (written_at Over s.limit (s.text ++ take room piece))) (R (settled_output (with_piece s.text piece) s.limit)) c.feed_last.result
+    on_err_weaker {P = R (written_at Over s.limit (s.text ++ take room piece))} {Q = R (settled_output (with_piece s.text piece) s.limit)} c.feed_last.result
     (subst R (last_output s room piece (room_of c.self.inside s c.self.view_is c.requires.live c.self.invariant) long)) c.feed_last.ensures.front
 
 pub returns-else-piece-room-clause-progress : goal.returns-else-piece-room-clause-progress
@@ -60,7 +61,7 @@ returns-else-piece-room-clause-wrote g c =
     let room = most_bytes - c.self.inside.taken in
     let short : length piece ≤ room = omega (arith, c.if-piece-room.false) in
     let R : List ℕ → Type 0 = λ l. Grew (g.K.Sink.held c.args.out.now) (g.K.Sink.held c.feed_all.new.out) (settled_output s.text s.limit) (settled_output l s.limit) in
-    ok_as (R (s.text ++ piece)) (R (with_piece s.text piece)) c.feed_all.result
+    on_ok_weaker {P = R (s.text ++ piece)} {Q = R (with_piece s.text piece)} c.feed_all.result
     (subst R (sym (fits s room piece (room_of c.self.inside s c.self.view_is c.requires.live c.self.invariant) short))) c.feed_all.ensures.wrote
 
 pub returns-else-piece-room-clause-front : goal.returns-else-piece-room-clause-front
@@ -70,5 +71,5 @@ returns-else-piece-room-clause-front g c =
     let room = most_bytes - c.self.inside.taken in
     let short : length piece ≤ room = omega (arith, c.if-piece-room.false) in
     let R : List ℕ → Type 0 = λ l. GrewByFront (g.K.Sink.held c.args.out.now) (g.K.Sink.held c.feed_all.new.out) (settled_output s.text s.limit) (settled_output l s.limit) in
-    err_as (R (s.text ++ piece)) (R (with_piece s.text piece)) c.feed_all.result
+    on_err_weaker {P = R (s.text ++ piece)} {Q = R (with_piece s.text piece)} c.feed_all.result
     (subst R (sym (fits s room piece (room_of c.self.inside s c.self.view_is c.requires.live c.self.invariant) short))) c.feed_all.ensures.front
