@@ -1,5 +1,7 @@
 pub mod RowFormLaws
 mod SideLaws
+mod OperatorEquality
+mod KnownLaws
 mod GrowLaws
 mod SolveLaws
 mod RangeLaws

@@ -20,7 +20,7 @@ use Rattle.mm_present.specs.declared.sides.Side.{Side}
 pub side_vector : (f : Field) (r k : ℕ) (side : Side) → IsSide f r side → IsVector f side.rows.cols (side_row k side)
 side_vector f r k side h =
     subst (λ g. IsVector g side.rows.cols (side_row k side)) h.field
-    (IsVector-combination side.rows.f side.rows.cols (row_of side.digits.rows k) side.rows.rows
+    (IsVector-combination side.rows.f side.rows.cols (row_of side.digits.now.rows k) side.rows.rows
     (subst (λ g. AreVectors g side.rows.cols side.rows.rows) (sym h.field) h.each))
 
 pub join_row_vector : (f : Field) (r k : ℕ) (left right : Side) → IsSide f r left → IsSide f r right →
@@ -90,7 +90,7 @@ internal_step w h t c k old now new row p l e er en =
 
 -- a join of children with these boundary rows
 pub side_is : (op : OpValue) (t : ℕ) (m : MatrixValue) (g : List (List ℕ)) (side : Side) → ArePart op.f t m → length g ≡ t →
-    (side.rows ≡ m) × (side.digits ≡ record { f = op.f; cols = row_length op.op; rows = in_join op.f op.op g }) → IsSide op.f (row_length op.op) side
+    (side.rows ≡ m) × (side.digits.now ≡ record { f = op.f; cols = row_length op.op; rows = in_join op.f op.op g }) → IsSide op.f (row_length op.op) side
 side_is op t m g side h e p = record {
   field = ap (λ (x : MatrixValue). x.f) p.0 ∙ h.field;
   digits_field = ap (λ (x : MatrixValue). x.f) p.1;
@@ -100,15 +100,15 @@ side_is op t m g side h e p = record {
 }
 
 side_row_is : (op : OpValue) (m : MatrixValue) (g : List (List ℕ)) (side : Side) (k : ℕ) → m.f ≡ op.f →
-    (side.rows ≡ m) × (side.digits ≡ record { f = op.f; cols = row_length op.op; rows = in_join op.f op.op g }) →
+    (side.rows ≡ m) × (side.digits.now ≡ record { f = op.f; cols = row_length op.op; rows = in_join op.f op.op g }) →
     side_row k side ≡ combination op.f m.cols (row_of (in_join op.f op.op g) k) m.rows
 side_row_is op m g side k e p =
     ap₂ (λ (x d : MatrixValue). combination x.f x.cols (row_of d.rows k) x.rows) p.0 p.1
     ∙ ap (λ h. combination h m.cols (row_of (in_join op.f op.op g) k) m.rows) e
 
 pub join_row_is : (op : OpValue) (l r : MatrixValue) (left right : Side) (k : ℕ) → l.f ≡ op.f → r.f ≡ op.f →
-    (left.rows ≡ l) × (left.digits ≡ record { f = op.f; cols = row_length op.op; rows = in_join op.f op.op op.op.g1 }) →
-    (right.rows ≡ r) × (right.digits ≡ record { f = op.f; cols = row_length op.op; rows = in_join op.f op.op op.op.g2 }) →
+    (left.rows ≡ l) × (left.digits.now ≡ record { f = op.f; cols = row_length op.op; rows = in_join op.f op.op op.op.g1 }) →
+    (right.rows ≡ r) × (right.digits.now ≡ record { f = op.f; cols = row_length op.op; rows = in_join op.f op.op op.op.g2 }) →
     join_row left right k ≡ joined_row op l r k
 join_row_is op l r left right k el er pl pr =
     ap₂ (λ x y. x ++ y) (side_row_is op l op.op.g1 left k el pl) (side_row_is op r op.op.g2 right k er pr)

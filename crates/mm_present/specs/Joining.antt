@@ -20,7 +20,7 @@ with_digits start digits row = take start row ++ (digits ++ drop (start + length
 
 -- row k of a join at the elements of a child
 abbrev pub side_row : ℕ → Side → List ℕ
-side_row k side = combination side.rows.f side.rows.cols (row_of side.digits.rows k) side.rows.rows
+side_row k side = combination side.rows.f side.rows.cols (row_of side.digits.now.rows k) side.rows.rows
 
 -- row k of a join
 abbrev pub join_row : Side → Side → ℕ → List ℕ
@@ -47,9 +47,9 @@ pub record ArePart (f : Field) (t : ℕ) (m : MatrixValue) : Type 0 where
 -- The boundary rows of a child of a join by an operator over f, and as many lists of r digits.
 pub record IsSide (f : Field) (r : ℕ) (side : Side) : Type 0 where
   pub field : side.rows.f ≡ f
-  pub digits_field : side.digits.f ≡ f
-  pub width : side.digits.cols ≡ r
-  pub count : length side.digits.rows ≡ length side.rows.rows
+  pub digits_field : side.digits.now.f ≡ f
+  pub width : side.digits.now.cols ≡ r
+  pub count : length side.digits.now.rows ≡ length side.rows.rows
   pub each : AreVectors f side.rows.cols side.rows.rows
 
 -- row k of a join of children with these boundary rows

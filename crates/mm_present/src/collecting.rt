@@ -8,9 +8,8 @@ ghost use Rattle.mm_tree.specs.Nodes.{named, named_leaf, IsOver};
 ghost use Rattle.mm_field.specs.Vectors.{AreDigits};
 ghost use Rattle.mm_logic.specs.Operator.{row_length};
 ghost use Rattle.mm_present.specs.Joining.{ArePart, IsSide, boundary_rows, placed_rows, join_row, joined_row, widened};
-ghost use Rattle.mm_present.specs.RowForm.{in_join};
 
-use crate::coordinates::{Basis, digits_in_join};
+use crate::known::KnownOperators;
 use crate::sides::{Side, join_row};
 use mm_base::NoMemory;
 use mm_field::Field;
@@ -52,26 +51,6 @@ fn leaf_rows(alloc: Global, f: Field, leaf: &Leaf) -> Result<Matrix, NoMemory>
         Some(item) => column(alloc, f, &item.vec),
         None => no_columns(alloc, f, leaf.t),
     }
-}
-
-/// The two sides of a join with these boundary rows.
-fn sides(alloc: Global, op: &Op, left: Matrix, right: Matrix) -> Result<(Side, Side), NoMemory>
-    ensures left { IfOk result (λ s. (s.0.rows ≡ left) × (s.0.digits ≡ record { f = op.now.f; cols = row_length op.now.op; rows = in_join op.now.f op.now.op op.now.op.g1 })) }
-    ensures right { IfOk result (λ s. (s.1.rows ≡ right) × (s.1.digits ≡ record { f = op.now.f; cols = row_length op.now.op; rows = in_join op.now.f op.now.op op.now.op.g2 })) }
-{
-    let _ = op.field();
-    let basis = Basis::of(alloc, op)?;
-    let first = digits_in_join(alloc, op, &basis, op.g1())?;
-    let second = digits_in_join(alloc, op, &basis, op.g2())?;
-    let left = Side {
-        digits: first,
-        rows: left,
-    };
-    let right = Side {
-        digits: second,
-        rows: right,
-    };
-    Ok((left, right))
 }
 
 /// Rows t3 to t3 + c - 1 of a join, the last first, each among all elements, put behind those of `internal`.
@@ -120,6 +99,7 @@ fn boundary_of_join(alloc: Global, op: &Op, left: &Side, right: &Side) -> Result
 fn join_rows(
     alloc: Global,
     op: &Op,
+    known: &mut KnownOperators,
     left: Matrix,
     right: Matrix,
     before: usize,
@@ -138,19 +118,22 @@ fn join_rows(
         ++ reverse (map (widened before after) (map (joined_row op.now left right) (range_with_len op.now.op.t3 op.now.op.c)))) }
 {
     let _ = op.field();
-    let (left, right) = sides(alloc, op, left, right)?;
+    let digits = known.digits(alloc, op)?;
+    let left = Side::new(&digits.first, left);
+    let right = Side::new(&digits.second, right);
     push_internal(alloc, op, &left, &right, before, after, internal)?;
     boundary_of_join(alloc, op, &left, &right)
 }
 
 /// The boundary rows of a node, over its own elements. Its internal rows are put behind those of `internal`, the last first, each over
-/// all `total` elements, of which `after` come after the node's own.
+/// all `total` elements, of which `after` come after the node's own. Operators that are not `known` yet are put there.
 pub(crate) fn collect(
     alloc: Global,
     f: Field,
     node: &Node,
     total: usize,
     after: usize,
+    known: &mut KnownOperators,
     internal: &mut Vec<Vec<u8>>,
 ) -> Result<Matrix, NoMemory>
     requires over { IsOver f node.now }
@@ -164,11 +147,11 @@ pub(crate) fn collect(
     match node {
         Node::Leaf(leaf) => leaf_rows(alloc, f, leaf),
         Node::Join(_, op, left, right) => {
-            let second = collect(alloc, f, right, total, after, internal)?;
+            let second = collect(alloc, f, right, total, after, known, internal)?;
             let beyond = after + second.cols();
-            let first = collect(alloc, f, left, total, beyond, internal)?;
+            let first = collect(alloc, f, left, total, beyond, known, internal)?;
             let before = total - beyond - first.cols();
-            join_rows(alloc, op, first, second, before, after, internal)
+            join_rows(alloc, op, known, first, second, before, after, internal)
         }
     }
 }

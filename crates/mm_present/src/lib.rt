@@ -6,6 +6,7 @@ mod comparison;
 mod coordinates;
 mod elements;
 mod independence;
+mod known;
 mod named;
 mod present;
 mod sides;

@@ -10,6 +10,7 @@ ghost use Rattle.mm_present.specs.Comparing.{present_rows};
 use crate::Named;
 use crate::collecting::collect;
 use crate::elements::elements;
+use crate::known::KnownOperators;
 use mm_base::NoMemory;
 use mm_field::Field;
 use mm_matrix::Matrix;
@@ -53,6 +54,7 @@ pub fn matrix_of(alloc: Global, tree: &Tree) -> Result<Named, NoMemory>
         tree.node(),
         names.len(),
         0,
+        &mut KnownOperators::new(alloc),
         &mut internal,
     )?;
     let rows = stack(alloc, boundary, internal)?;

@@ -74,6 +74,20 @@ fn tree(alloc: Global, g: (&[u8], &[u8]), third: Option<&[u8]>) -> Option<Tree>
     builder.finish().ok()
 }
 
+/// The tree with the elements a, b, c and d, of which a and b are joined by the same operator as c and d.
+fn tree_of_pairs(alloc: Global) -> Option<Tree> {
+    let pair = (&b"01"[..], &b"11"[..]);
+    let mut builder = Builder::new(alloc, Field::Two);
+    add(alloc, &mut builder, b"a")?;
+    add(alloc, &mut builder, b"b")?;
+    join(alloc, &mut builder, 1, 1, pair, None)?;
+    add(alloc, &mut builder, b"c")?;
+    add(alloc, &mut builder, b"d")?;
+    join(alloc, &mut builder, 1, 1, pair, None)?;
+    join(alloc, &mut builder, 0, 1, (b"1", b"1"), None)?;
+    builder.finish().ok()
+}
+
 /// How rows over three different names compare with a tree.
 fn compared(
     alloc: Global,
@@ -148,5 +162,17 @@ fn internal_rows_by_a_third_boundary(rt: HostRuntime) -> Result<(), Fail> {
     assert_eq!(rt; present.rows.rows(), 2);
     assert_eq!(rt; present.rows.row(0), [1, 0, 1].as_slice());
     assert_eq!(rt; present.rows.row(1), [1, 1, 0].as_slice());
+    Ok(())
+}
+
+#[test]
+fn an_operator_that_joins_twice(rt: HostRuntime) -> Result<(), Fail> {
+    let alloc = rt.alloc();
+    let tree = tree_of_pairs(alloc).ok_or("a tree")?;
+    let present = matrix_of(alloc, &tree)?;
+    assert_eq!(rt; (present.names.len(), present.rows.rows()), (4, 3));
+    assert_eq!(rt; present.rows.row(0), [0, 1, 0, 1].as_slice());
+    assert_eq!(rt; present.rows.row(1), [1, 1, 0, 0].as_slice());
+    assert_eq!(rt; present.rows.row(2), [0, 0, 1, 1].as_slice());
     Ok(())
 }

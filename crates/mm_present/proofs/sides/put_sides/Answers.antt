@@ -12,7 +12,7 @@ put_side-requires-2-clause-zero c =
     c.put_side.ensures ∙ ap (λ z. with_digits c.args.before (side_row c.args.k left) z) c.requires.zero in
     subst (λ n. take right.rows.cols (drop (c.args.before + n) c.put_side.new.row) ≡ zeros right.rows.cols) (sym c.cols.ensures)
     (ap (λ z. take right.rows.cols (drop (c.args.before + left.rows.cols) z)) row
-    ∙ zeros_behind c.args.before left.rows.cols right.rows.cols c.args.after (side_row c.args.k left) (side_vector left.rows.f left.digits.cols c.args.k left c.requires.left).len)
+    ∙ zeros_behind c.args.before left.rows.cols right.rows.cols c.args.after (side_row c.args.k left) (side_vector left.rows.f left.digits.now.cols c.args.k left c.requires.left).len)
 
 pub returns : goal.returns
 returns c =
@@ -24,5 +24,5 @@ returns c =
     ∙ ap (λ n. with_digits (c.args.before + n) second c.put_side.new.row) c.cols.ensures
     ∙ ap (λ z. with_digits (c.args.before + left.rows.cols) second z) (c.put_side.ensures ∙ ap (λ z. with_digits c.args.before first z) c.requires.zero)
     ∙ both_put c.args.before left.rows.cols right.rows.cols c.args.after first second
-    (side_vector left.rows.f left.digits.cols c.args.k left c.requires.left).len
-    (side_vector right.rows.f right.digits.cols c.args.k right c.requires.right).len
+    (side_vector left.rows.f left.digits.now.cols c.args.k left c.requires.left).len
+    (side_vector right.rows.f right.digits.now.cols c.args.k right c.requires.right).len
