@@ -266,21 +266,3 @@ pub unfinished : (limit : ℕ) (a b h k m : Option (List ℕ)) (job : JobState) 
 unfinished limit a b h k m job e at grew =
     ran_unfinished limit a b h k m job.text e at.far at.stop
     (subst (λ n. GrewByFront k m (settled_output job.text n) (output job.text n)) at.same grew)
-
--- all bytes that are used, and one more
-pub at_limit : (limit : ℕ) (a b h k : Option (List ℕ)) (job : JobState) (taken : ℕ) → SoFar limit a b h k job.text → length job.text ≡ taken
-    → job.limit ≡ limit → most_bytes + 1 ≤ taken → IsRead limit a b h k job
-at_limit limit a b h k job taken far count same full = record {
-  far = far;
-  stop = inr (let l : length job.text ≤ most_bytes + 1 = far.size in omega (arith, count, full, l));
-  same = same;
-}
-
--- the end of the source
-pub at_end : (limit : ℕ) (a b h k : Option (List ℕ)) (old new : JobState) → new ≡ old → IsAtEnd b → old.limit ≡ limit
-    → SoFar old.limit a b h k old.text → IsRead limit a b h k new
-at_end limit a b h k old new e stop same far = subst (λ j. IsRead limit a b h k j) (sym e) (record {
-  far = subst (λ n. SoFar n a b h k old.text) same far;
-  stop = inl stop;
-  same = same;
-})

@@ -1,7 +1,6 @@
 -- A variable is in the set of those that were seen exactly where the term has it.
 use Rattle.std.proofs.Common.{◌≡◌, ℕ, Bool, true, false, not, ◌||◌, List, [], ◌∷◌, ◌++◌, refl, sym, ap, ap₂, ◌∙◌, if◌then◌else◌}
 use Rattle.std.specs.List.{list_any}
-use Rattle.indexmap.specs.IndexSet.{insert_key}
 use Rattle.mm_formula.specs.Repeats.{has}
 use Rattle.mm_formula.specs.contracts.var.VarPartialEq.TheImpl.{eq-value}
 use Rattle.mm_formula.specs.declared.formula.Term.{Term}
@@ -11,9 +10,6 @@ use Rattle.mm_formula_text.specs.Grammar.{mention}
 pub seen_is : (v : List ℕ) (vs : List (List ℕ)) → list_any ((eq-value).it v) vs ≡ has v vs
 seen_is v [] = refl
 seen_is v (w ∷ vs) = ap₂ (λ (a b : Bool). a || b) (var_eq v w) (seen_is v vs)
-
-pub keys_more : (v : List ℕ) (vs : List (List ℕ)) → insert_key (eq-value).it vs v ≡ (if has v vs then vs else vs ++ v ∷ [])
-keys_more v vs = ap (λ (b : Bool). if b then vs else vs ++ v ∷ []) (seen_is v vs)
 
 pub mention-old : (t : Term) (v : List ℕ) → has v t.vars ≡ true → mention t v ≡ t
 mention-old t v e = ap (λ (b : Bool). if b then t else record { whole = t.whole; vars = t.vars ++ v ∷ [] }) e

@@ -12,18 +12,17 @@ use Rattle.mm_lines.specs.declared.line.Line.{Line}
 use Rattle.mm_lines.specs.declared.line.LineText.{LineText}
 use Rattle.mm_lines.specs.declared.line.LineText.TheVariants.{Whole, TooLong}
 use Rattle.mm_words.specs.Arguments.{begins, first_is, too_long}
-use Rattle.mm_words.specs.Readers.{Reading, Read}
+use Rattle.mm_words.specs.Readers.{Read}
 use Rattle.mm_words.specs.declared.refusal.Refusal.{Refusal}
-use Rattle.mm_job.specs.Blocks.{block_from, reply_of, told_rest, told_from}
-use Rattle.mm_job.specs.Edits.{Denied, block, check_end, check_names, check_rows, compared_or, is_same, single}
+use Rattle.mm_job.specs.Blocks.{block_from, told_rest, told_from}
+use Rattle.mm_job.specs.Edits.{Denied, block, check_end, check_names, check_rows, compared_or, single}
 use Rattle.mm_job.specs.Header.{Session}
 use Rattle.mm_job.specs.Items.{Rest, block_of, closes, items, opens, rest_of_block, after_line, Single}
-use Rattle.mm_present.specs.Comparing.{Named, compared}
 use Rattle.mm_job.specs.Output.{Ending, after_reply, reply_line, told_items}
 use Rattle.mm_job.specs.declared.block.Block.{Block}
 use Rattle.mm_job.specs.declared.block.Block.TheVariants as begun
 use Rattle.mm_job.specs.declared.said.Said.{Said}
-use Rattle.mm_job.specs.declared.said.Said.TheVariants.{Refuses, Says}
+use Rattle.mm_job.specs.declared.said.Said.TheVariants.{Refuses}
 
 -- ---- the end of a block
 
@@ -103,7 +102,3 @@ ended e s r b said rs h is =
     ∙ ap (λ (x : Said). x ∷ told_items e s (items rs)) (sym is)
 
 -- ---- the reply of a check
-
-pub reply_same : (s : Session) (given : Named) (said : Said) (reading : Reading Named) → reading ≡ Read given []
-    → said ≡ Says (if is_same (compared s.f given s.tree) then codes "same" else codes "differs") → said ≡ reply_line (reply_of s reading)
-reply_same s given said reading r is = rw r is

@@ -21,7 +21,7 @@ use Rattle.mm_words.specs.Arguments.{args, three_of, two_of}
 use Rattle.mm_words.specs.Becoming.{Becomes}
 use Rattle.mm_words.specs.Demands.{◌>>=◌, ◌>>◌, demand, found, within}
 use Rattle.mm_words.specs.DigitTexts.{vector_of}
-use Rattle.mm_words.specs.TreeLines.{elem_line, elem_words, join_line, join_words, last_two, most_boundary, names_in, the_one, void_line, void_words, with_leaf}
+use Rattle.mm_words.specs.TreeLines.{elem_line, elem_words, join_line, join_words, last_two, most_boundary, names_in, void_line, void_words, with_leaf}
 use Rattle.mm_words.specs.declared.refusal.Limit.TheVariants as limit
 use Rattle.mm_words.specs.declared.refusal.Refusal.{Refusal}
 use Rattle.mm_words.specs.declared.refusal.Refusal.TheVariants as refusal
@@ -212,11 +212,6 @@ unfolding join_line
 join_refused ops trees line e is = ap (λ (o : Result (List ℕ) Refusal). o >>= join_behind line.number ops trees) (sym is)
 
 -- ---- the one tree
-
-pub no_one : (trees : List Tree) → (length trees ≡ 1 → ⊥) → the_one trees ≡ None
-no_one [] h = refl
-no_one (t ∷ []) h = absurd (h refl)
-no_one (t ∷ u ∷ trees) h = refl
 
 -- ---- what the words of a leaf keep
 

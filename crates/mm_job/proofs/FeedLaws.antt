@@ -70,11 +70,6 @@ come_on status (x ∷ xs) ys = come_on (after_said status x) xs ys
 pub nothing_written : (held : Option (List ℕ)) (bs : List ℕ) → GrowsByFront held held bs
 nothing_written held bs = (0, Appends-nil held)
 
--- the lines are the same ones
-pub fed_same : (limit : ℕ) (course : Course) (lines lines_now : List Line) (held : Option (List ℕ)) → lines ≡ [] → lines_now ≡ [] → Fed limit course course lines lines_now held held
-fed_same limit course lines lines_now held p q =
-    record { said = []; grew = Appends-nil held; same = λ e rs. ap (λ (l : List Line). told_by limit course.stage e (l ++ rs)) (p ∙ sym q); comes = refl }
-
 pub fed_nothing : (limit : ℕ) (course : Course) (lines : List Line) (held : Option (List ℕ)) → Fed limit course course lines lines held held
 fed_nothing limit course lines held = record { said = []; grew = Appends-nil held; same = λ e rs. refl; comes = refl }
 
@@ -91,13 +86,6 @@ fed_trans limit a b c lines lines_now lines_after held held_now held_after p q =
       same = λ e rs. p.same e rs ∙ ap (λ (l : List Said). p.said ++ l) (q.same e rs) ∙ sym (append_assoc p.said q.said (told_by limit c.stage e (lines_after ++ rs)));
       comes = q.comes ∙ ap (λ (s : Option Status). come_to s q.said) p.comes ∙ sym (come_on a.status p.said q.said);
     }
-
--- a line was taken, and what is said of it was written
-pub fed_line : (limit : ℕ) (old new : Course) (r : Line) (rs : List Line) (said : List Said) (held held_new : Option (List ℕ))
-    → ((e : Ending) (rs : List Line) → told_by limit old.stage e (r ∷ rs) ≡ said ++ told_by limit new.stage e rs)
-    → Appends held held_new (printed_all said) → new.status ≡ come_to old.status said → Fed limit old new (r ∷ rs) rs held held_new
-fed_line limit old new r rs said held held_new step grew comes =
-    record { said = said; grew = grew; same = λ e more. step e (rs ++ more); comes = comes }
 
 -- what is told of the lines is what is said of the first of them and what is told behind it
 told_on : (limit : ℕ) (old new : Course) (lines lines_now : List Line) (held held_now : Option (List ℕ)) → (fed : Fed limit old new lines lines_now held held_now)
@@ -138,9 +126,6 @@ rose_before a b c h r = omega (arith, h, r)
 
 pub cause_behind : {T : Type 0} (a b c : ℕ) (r : Result T JobFault) → a ≤ b → HasJobCause b c r → HasJobCause a c r
 cause_behind a b c r h cause = record { later = omega (arith, h, cause.later); failed = λ f. rose_before a b c h (cause.failed f) }
-
-pub cause_ok : {T : Type 0} (a b c : ℕ) (x : T) → a ≤ b → b ≤ c → HasJobCause a c (Ok x)
-cause_ok a b c x h k = record { later = omega (arith, h, k); failed = λ f. absurd (cc) }
 
 -- ---- the first of the lines that are left
 

@@ -1,7 +1,7 @@
 -- One step of each walk over a line: over blanks, over a token, and over blanks at the end.
-use Rattle.std.proofs.Common.{◌≡◌, ℕ, zero, suc, ◌+◌, ◌-◌, ◌<◌, ◌≤◌, Bool, true, false, List, [], ◌∷◌, ◌++◌, length, get_or, take, drop, refl, sym, ap, ◌∙◌, arith}
+use Rattle.std.proofs.Common.{◌≡◌, ℕ, zero, suc, ◌+◌, ◌-◌, ◌≤◌, Bool, true, false, List, [], ◌∷◌, ◌++◌, length, get_or, take, drop, refl, sym, ap, ◌∙◌, arith}
 use Rattle.std.specs.Prelude.{reverse, if◌then◌else◌}
-use Rattle.std.proofs.lemmas.List.{take_rest, take-append-drop, drop_more, drop_all, reverse-append, reverse-reverse}
+use Rattle.std.proofs.lemmas.List.{take_rest, take-append-drop, drop_more, drop_all, reverse-append}
 use Rattle.mm_lines.specs.Tokens.{is_blank, skip_blanks, skip_token, skip_tokens, trim_end}
 
 picked_yes : {A : Type 0} (c : Bool) (x y : A) → c ≡ true → (if c then x else y) ≡ x
@@ -17,17 +17,9 @@ pub skip_blanks_step : (xs : List ℕ) → 1 ≤ length xs → is_blank (get_or 
 skip_blanks_step [] h e = absurd (omega arith)
 skip_blanks_step (x ∷ xs) h e = ap skip_blanks (take_rest (x ∷ xs) 1) ∙ sym (picked_yes (is_blank x) (skip_blanks xs) (x ∷ xs) e)
 
-pub skip_blanks_stops : (xs : List ℕ) → 1 ≤ length xs → is_blank (get_or xs 0 0) ≡ false → skip_blanks xs ≡ xs
-skip_blanks_stops [] h e = absurd (omega arith)
-skip_blanks_stops (x ∷ xs) h e = picked_no (is_blank x) (skip_blanks xs) (x ∷ xs) e
-
 pub skip_token_step : (xs : List ℕ) → 1 ≤ length xs → is_blank (get_or xs 0 0) ≡ false → skip_token (take (length xs - 1) (drop 1 xs)) ≡ skip_token xs
 skip_token_step [] h e = absurd (omega arith)
 skip_token_step (x ∷ xs) h e = ap skip_token (take_rest (x ∷ xs) 1) ∙ sym (picked_no (is_blank x) (x ∷ xs) (skip_token xs) e)
-
-pub skip_token_stops : (xs : List ℕ) → 1 ≤ length xs → is_blank (get_or xs 0 0) ≡ true → skip_token xs ≡ xs
-skip_token_stops [] h e = absurd (omega arith)
-skip_token_stops (x ∷ xs) h e = picked_yes (is_blank x) (x ∷ xs) (skip_token xs) e
 
 -- nothing is skipped where nothing is left
 pub empty_is_nil : (xs : List ℕ) → length xs ≡ 0 → xs ≡ []
@@ -37,10 +29,6 @@ empty_is_nil (x ∷ xs) h = absurd (omega (arith, h))
 pub skip_tokens_nil : (k : ℕ) → skip_tokens k [] ≡ []
 skip_tokens_nil zero = refl
 skip_tokens_nil (suc k) = skip_tokens_nil k
-
-pub skip_tokens_step : (k : ℕ) (line : List ℕ) → 0 < k → skip_tokens (k - 1) (skip_blanks (skip_token line)) ≡ skip_tokens k line
-skip_tokens_step zero line h = absurd (omega (arith, h))
-skip_tokens_step (suc k) line h = ap (λ (n : ℕ). skip_tokens n (skip_blanks (skip_token line))) {x = suc k - 1} {y = k} (omega arith)
 
 -- a line is all but its last byte, and that byte
 last_split : (xs : List ℕ) → 1 ≤ length xs → xs ≡ take (length xs - 1) xs ++ get_or xs (length xs - 1) 0 ∷ []
@@ -57,15 +45,6 @@ trim_end_step xs h e =
     let last = get_or xs (length xs - 1) 0 in
     let front = reverse (take (length xs - 1) xs) in
     ap reverse (sym (picked_yes (is_blank last) (skip_blanks front) (last ∷ front) e) ∙ ap skip_blanks (sym (reversed xs h)))
-
-pub trim_end_stops : (xs : List ℕ) → 1 ≤ length xs → is_blank (get_or xs (length xs - 1) 0) ≡ false → trim_end xs ≡ xs
-trim_end_stops xs h e =
-    let last = get_or xs (length xs - 1) 0 in
-    let front = take (length xs - 1) xs in
-    ap (λ (l : List ℕ). reverse (skip_blanks l)) (reversed xs h)
-    ∙ ap reverse (picked_no (is_blank last) (skip_blanks (reverse front)) (last ∷ reverse front) e)
-    ∙ ap reverse (sym (reversed xs h))
-    ∙ reverse-reverse xs
 
 pub skip_nothing : (k : ℕ) (line : List ℕ) → length line ≡ 0 → line ≡ skip_tokens k line
 skip_nothing k line h = empty_is_nil line h ∙ sym (skip_tokens_nil k) ∙ ap (skip_tokens k) (sym (empty_is_nil line h))

@@ -1,5 +1,5 @@
 -- A row that is put in at the place of its lead keeps reduced rows reduced, and the span grows by it.
-use Rattle.std.proofs.Common.{ℕ, zero, suc, ◌+◌, ◌<◌, ◌≤◌, ◌≡◌, ◌≢◌, List, [], ◌∷◌, ◌++◌, length, get_or, map, take, drop, sym, ap, ap₂, ◌∙◌, subst, arith}
+use Rattle.std.proofs.Common.{ℕ, zero, suc, ◌+◌, ◌<◌, ◌≤◌, ◌≡◌, List, [], ◌∷◌, ◌++◌, length, get_or, map, take, drop, sym, ap, ap₂, ◌∙◌, subst, arith}
 use Rattle.std.proofs.lemmas.List.Elements.{All-cons, All-append, All-take, All-drop, All-head, All-tail}
 use Rattle.std.specs.List.{All}
 use Rattle.mm_field.specs.declared.Field.{Field}
@@ -12,7 +12,6 @@ use Rattle.mm_linear.specs.Eliminate.{cleared}
 use Rattle.mm_linear.specs.LeftRows.{Leads, Clear}
 use Rattle.mm_linear.proofs.BasisLaws.{ended, IsVector-ended, less_and_more}
 use Rattle.mm_linear.proofs.PivotLaws.{cut-ended, last-ended, take-shorter, count_leads, entry_of_cut}
-use Rattle.mm_linear.proofs.EchelonLaws.{zero_not_one}
 use Rattle.mm_linear.proofs.LeftUnique.{leads_above}
 use Rattle.mm_linear.proofs.InsertLaws.{IsVector-cleared, cleared_entry, sum_of_zeros, cleared_at as cleared_digit}
 use Rattle.mm_matrix.specs.Rests.{AreReduced, IsNew, IsPlaceOf}
@@ -28,10 +27,6 @@ with_lead p place leads = take place leads ++ p ∷ drop place leads
 
 pub one_of_new : (f : Field) (n p : ℕ) (w ks : List ℕ) → IsNew f n p w ks → get_or w p 0 ≡ 1
 one_of_new f n p w ks new = entry_of_cut p w (ended p 1) new.lead ∙ last-ended p 1
-
-pub new_lead : (f : Field) (n p : ℕ) (w ks : List ℕ) → IsNew f n p w ks → All (λ k. k ≢ p) ks
-new_lead f n p w ks new = λ i d l e.
-    zero_not_one (get_or w p 0) (sym (ap (λ (x : ℕ). get_or w x 0) e) ∙ new.zero i d l) (one_of_new f n p w ks new)
 
 cleared_at : (f : Field) (n p : ℕ) (w v : List ℕ) → IsVector f n w → IsVector f n v → p < n → get_or w p 0 ≡ 1 →
     get_or (cleared f p w v) p 0 ≡ 0

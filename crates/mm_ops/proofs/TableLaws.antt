@@ -1,14 +1,13 @@
 -- Tables by the words of `indexmap`: names are compared byte by byte.
-use Rattle.std.proofs.Common.{ℕ, ◌≡◌, List, [], ◌∷◌, length, Bool, true, false, refl, sym, ap, ap₂, ◌∙◌, Option, Some, None, if◌then◌else◌, ◌||◌, nat_le, ◌≤◌, ◌<◌, Err}
+use Rattle.std.proofs.Common.{ℕ, ◌≡◌, List, [], ◌∷◌, length, Bool, true, false, refl, sym, ap, ap₂, ◌∙◌, Option, Some, None, if◌then◌else◌, ◌||◌, nat_le, ◌≤◌, ◌<◌}
 use Rattle.std.specs.Str.{bytes_eq}
 use Rattle.std.proofs.lemmas.Bool.{le-leb, lt-leb}
 use Rattle.std.specs.Map.{lookup}
 use Rattle.std.specs.Option.{is_some}
 use Rattle.mm_base.proofs.NameLaws.{name_eq}
 use Rattle.mm_ops.specs.OpValue.{OpValue}
-use Rattle.mm_ops.specs.Tables.{Named, op_named, has_name, refusal_of, Answers}
-use Rattle.mm_ops.specs.declared.table.OpTableFault.{OpTableFault}
-use Rattle.mm_ops.specs.declared.table.OpTableFault.TheVariants.{NameTaken, Full, NoMemory}
+use Rattle.mm_ops.specs.Tables.{Named, op_named, has_name, refusal_of}
+use Rattle.mm_ops.specs.declared.table.OpTableFault.TheVariants.{NameTaken, Full}
 use Rattle.mm_base.specs.contracts.name.NamePartialEq.TheImpl.{eq-value}
 
 -- ---- looking up
@@ -45,11 +44,6 @@ pub none_refused : (name : List ℕ) (entries : Named) → is_some (op_named nam
 none_refused name entries e l =
     ap₂ (λ (t f : Bool). if t then Some NameTaken else (if f then Some Full else None))
     (sym (has_name_is name entries) ∙ e) (lt-leb 4096 (length entries) l)
-
-pub answers_fault : (fault : OpTableFault) (refusal : Option OpTableFault) → refusal ≡ Some fault → Answers (Err fault) refusal
-answers_fault NameTaken refusal e = e
-answers_fault Full refusal e = e
-answers_fault NoMemory refusal e = tt
 
 absent : (o : Option OpValue) → is_some o ≡ false → o ≡ None
 absent None e = refl

@@ -107,10 +107,6 @@ behind (With a b) (With c d) xs ys =
     ∙ behind a c (written b ++ xs) (written d ++ ys) ∙ ap (ordering_then (value_cmp a c)) (behind b d xs ys))
     (behind a c (written b) (written d))
 
--- numbers behind the same number
-pub cmp_flags : (m n : ℕ) → nat_cmp m n ≡ value_cmp (Flag m) (Flag n)
-cmp_flags m n = sym (then_nothing _ ∙ then_nothing _ ∙ then_nothing (nat_cmp m n))
-
 pub cmp_spaces : (t u : ℕ) (rows others : List (List ℕ)) →
     ordering_then (ordering_then (nat_cmp t u) (nat_cmp (length rows) (length others))) (part_cmp rows others) ≡ value_cmp (Span t rows) (Span u others)
 cmp_spaces t u rows others =

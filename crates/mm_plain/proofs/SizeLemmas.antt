@@ -3,7 +3,7 @@ use Rattle.std.proofs.Common.{◌≡◌, ◌<◌, ◌+◌, ◌≤◌, cond, take
 use Rattle.std.proofs.lemmas.List.{length-append, length-map, map-append, get_or-map}
 use Rattle.std.proofs.lemmas.List.Sums.{sum_by-append}
 use Rattle.mm_logic.specs.Formula.{Formula, Connective}
-use Rattle.mm_logic.specs.Formula.Formula.{Not, Bin}
+use Rattle.mm_logic.specs.Formula.Formula.{Bin}
 use Rattle.mm_logic.specs.Value.{Value, first, second}
 use Rattle.mm_logic.specs.Occurrence.{distinct, is_among, nodes, occurring, own_cells, list_cells, cells}
 use Rattle.mm_logic.proofs.OccurrenceLemmas.{nodes-occurring, distinct-append, same_flip}
@@ -104,12 +104,6 @@ cells_atom F vs h =
   where
     alone : (n : ℕ) → n ≡ n + 0
     alone n = omega arith
-
-pub cells_not : (F : Formula) (vs : List Value) → cells F vs ≡ cells (Not F) vs
-cells_not F vs = nothing (cells F vs)
-  where
-    nothing : (n : ℕ) → n ≡ 0 + n
-    nothing n = omega arith
 
 pub cells_bin : (o : Connective) (F G : Formula) (vs : List Value) →
     sum_by (own_cells (Bin o F G)) (distinct vs) + (cells F (map first vs) + cells G (map second vs)) ≡ cells (Bin o F G) vs

@@ -170,14 +170,6 @@ outside_is f n rows others space (Some i) hr ho hs same m =
     (InSpan-within f n space others (get_or rows k []) ho same.1
     (subst (λ v. InSpan f n space v) s (m.before k [] (omega arith)))))
 
-pub first_given : (f : Field) (n i : ℕ) (given present : List (List ℕ)) → Some i ≡ first_outside f n given present →
-    verdict.Given (i + 1) ≡ compared_rows f n given present
-first_given f n i given present e = ap (λ o. verdict_of_rows o (first_outside f n present given)) e
-
-pub first_present : (f : Field) (n j : ℕ) (given present : List (List ℕ)) → None ≡ first_outside f n given present →
-    Some j ≡ first_outside f n present given → verdict.Present (j + 1) ≡ compared_rows f n given present
-first_present f n j given present e g = ap₂ verdict_of_rows e g
-
 pub none_outside : (f : Field) (n : ℕ) (given present : List (List ℕ)) → None ≡ first_outside f n given present →
     None ≡ first_outside f n present given → verdict.Same ≡ compared_rows f n given present
 none_outside f n given present e g = ap₂ verdict_of_rows e g

@@ -1,5 +1,5 @@
 -- What a reader of rows owes, over plain lists: it goes from `/` to `/`.
-use Rattle.std.proofs.Common.{ℕ, zero, suc, ◌+◌, ◌-◌, ◌<◌, ◌≤◌, ◌≡◌, ◌≢◌, inl, inr, List, [], ◌∷◌, ◌++◌, length, get_or, take, drop, refl, sym, ap, ap₂, ◌∙◌, subst, arith, append_assoc, length-append, length-drop}
+use Rattle.std.proofs.Common.{ℕ, zero, suc, ◌+◌, ◌-◌, ◌<◌, ◌≤◌, ◌≡◌, ◌≢◌, inl, inr, List, [], ◌∷◌, ◌++◌, length, get_or, take, drop, refl, sym, ap, ap₂, ◌∙◌, subst, arith, append_assoc, length-append}
 use Rattle.std.specs.Prelude.{All}
 use Rattle.std.proofs.lemmas.Bool.{cases_order}
 use Rattle.std.proofs.lemmas.List.{length-map, get_or-map, get_or-append_right, get_or_append_left, take_at, drop_at, drop-drop, drop_more, take-append-drop}
@@ -41,10 +41,6 @@ pub record Remains (k : ℕ) (rows : List (List ℕ)) (rest : List ℕ) : Type 0
   pub later : List (List ℕ)
   pub all : drop k rows ≡ next ∷ later
   pub text : rest ≡ joined_text next later
-
-pub remains_first : (f : Field) (rows : List (List ℕ)) (bytes : List ℕ) → IsGenText f rows bytes → (bytes ≡ 46 ∷ [] → ⊥) → Remains 0 rows bytes
-remains_first f [] bytes h not_dot = absurd (not_dot h.text)
-remains_first f (v ∷ vs) bytes h not_dot = record { next = v; later = vs; all = refl; text = h.text }
 
 -- where the rest has its first `/` at p, it is the text of the next row up to there
 pub record Cut (v : List ℕ) (vs : List (List ℕ)) (p : ℕ) (rest : List ℕ) : Type 0 where
@@ -128,14 +124,6 @@ vector_at_end f rows bytes k rest t h none =
         absurd (none n (omega arith)
         (ap (λ x. get_or x n 0) e ∙ get_or-append_right (vector_text v) (47 ∷ tail) n n 0 refl (omega arith)
         ∙ let z : n - n ≡ 0 = omega arith in ap (λ k. get_or (47 ∷ tail) k 0) z))
-
--- nothing remains after six rows
-pub none_remains : (f : Field) (rows : List (List ℕ)) (bytes : List ℕ) (k : ℕ) (rest : List ℕ) → IsGenText f rows bytes → 6 ≤ k →
-    Remains k rows rest → ⊥
-none_remains f rows bytes k rest t l h =
-    let few = t.few in
-    let some : length (drop k rows) ≡ suc (length h.later) = ap length h.all in
-    omega (arith, length-drop k rows)
 
 -- bytes with a `/` at p are what stands before it, the `/` and what stands after it
 pub at_slash : (p : ℕ) (v rest before after : List ℕ) → p < length rest → get_or rest p 0 ≡ 47 → before ≡ take p rest →

@@ -54,19 +54,6 @@ digits_of_text f (d ∷ v) bytes h not_dash =
           (omega arith, omega arith)),
     )
 
--- no text of a vector is empty or longer than 18 bytes
-pub text_length : (f : Field) (v bytes : List ℕ) → IsVectorText f v bytes → (0 < length bytes) × (length bytes ≤ 18)
-text_length f [] bytes h = let e : length bytes ≡ 1 = ap length h.text in (omega arith, omega arith)
-text_length f (d ∷ v) bytes h =
-    let e : length bytes ≡ length (d ∷ v) = ap length h.text ∙ length-map (d ∷ v) (λ x. 48 + x) in
-    let s = h.short in
-    (omega arith, omega arith)
-
-pub one_byte : (b : ℕ) (bytes : List ℕ) → length bytes ≡ 1 → get_or bytes 0 0 ≡ b → bytes ≡ b ∷ []
-one_byte b [] l e = absurd (omega arith)
-one_byte b (x ∷ []) l e = ap (λ y. y ∷ []) e
-one_byte b (x ∷ y ∷ bytes) l e = absurd (omega arith)
-
 -- one digit more
 pub one_digit_more : (f : Field) (digits bytes : List ℕ) (i d : ℕ) → i < length digits → d < order f → d + 48 ≡ get_or bytes i 0 →
     ((k : ℕ) → k < i → (get_or digits k 0 < order f) × (get_or digits k 0 + 48 ≡ get_or bytes k 0)) →

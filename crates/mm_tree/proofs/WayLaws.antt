@@ -26,14 +26,6 @@ some_nodes (Elem n vec weight) = omega arith
 some_nodes (Void n t) = omega arith
 some_nodes (Join n op left right) = omega arith
 
-pub depth_left : (n : List ℕ) (op : Op) (left right : Tree) → depth left + 1 ≤ depth (Join n op left right)
-unfolding depth
-depth_left n op left right = grind arith
-
-pub depth_right : (n : List ℕ) (op : Op) (left right : Tree) → depth right + 1 ≤ depth (Join n op left right)
-unfolding depth
-depth_right n op left right = grind arith
-
 -- ---- the way to a leaf
 
 pub leaf_way : (name : List ℕ) (l : leaves.Leaf) → way_to name (named_leaf l) ≡ (if bytes_eq name l.name then Some [] else None)
