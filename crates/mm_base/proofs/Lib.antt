@@ -1,4 +1,4 @@
-pub mod CopyLaws
-pub mod FrontLaws
-pub mod NameLaws
-pub mod PaddedLaws
+pub mod CopyLemmas
+pub mod FrontLemmas
+pub mod NameLemmas
+pub mod PaddedLemmas

@@ -19,7 +19,7 @@ pub record HasSinkCause {T : Type 0} (before now : ℕ) (result : Result T SinkF
   pub later : before ≤ now
   pub failed : IsErrOf result Failed → Rose before now
 
--- bytes that may be told grew by a front of bs
+-- bytes that may be known grew by a front of bs
 abbrev pub GrowsByFront : Option (List ℕ) → Option (List ℕ) → List ℕ → Type 0
 GrowsByFront old new bs = (n : ℕ) × Appends old new (take n bs)
 

@@ -2,7 +2,7 @@
 //! run, and the counter of its steps.
 //!
 //! - [`Source`] and [`Sink`] are where bytes come from and go to. Each counts its faults, so that
-//!   a failed run can be told from one that was given up: `Failed` comes only where the count rose.
+//!   a failed run can be known from one that was given up: `Failed` comes only where the count rose.
 //!   Over memory there are exact ones that fail at given calls, and ones that never fail; standard
 //!   input and output tell nothing of their contents.
 //! - [`write_all`] writes a whole piece, or a front of it and the reason.

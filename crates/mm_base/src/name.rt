@@ -15,7 +15,7 @@ const MAX_NAME: usize = 16;
 /// It is kept in place, so that a copy is a plain move and a look-up hashes no far memory.
 #[derive(Clone, Copy, Debug, PartialEq, Eq, Hash)]
 pub struct Name {
-    /// The name, and zeros behind it, so that equal names have equal fields.
+    /// The name, and zeros after it, so that equal names have equal fields.
     bytes: [u8; 16],
     /// How many bytes the name has, 1 to 16.
     len: usize,

@@ -13,9 +13,9 @@ use std::alloc::Global;
 use std::io::{Stdout, Write};
 use std::marker::Model;
 
-/// Where bytes are written, each piece behind the one before.
+/// Where bytes are written, each piece after the one before.
 pub trait Sink {
-    /// What it holds, where it is told.
+    /// What it holds, where it is known.
     ghost held: { Self → Option (List ℕ) };
 
     /// How many writes have failed, up to 2 ^ 64 - 1.
@@ -64,9 +64,9 @@ pub struct MemorySink {
 
 impl Model for MemorySink {
     ghost use Rattle.std.specs.Prelude.{◌<◌};
-    ghost use Rattle.mm_base.specs.Tapes.{Shelf};
+    ghost use Rattle.mm_base.specs.DeviceStates.{SinkState};
 
-    ghost Value = { Shelf };
+    ghost Value = { SinkState };
 
     ghost view = { λ s. record {
       held = s.bytes.items;

@@ -13,7 +13,7 @@ use std::marker::Model;
 
 /// Where bytes are read from, front to back.
 pub trait Source {
-    /// What is left to read, where it is told.
+    /// What is left to read, where it is known.
     ghost left: { Self → Option (List ℕ) };
 
     /// How many reads have failed, up to 2 ^ 64 - 1.
@@ -45,9 +45,9 @@ pub struct MemorySource {
 
 impl Model for MemorySource {
     ghost use Rattle.std.specs.Prelude.{drop, length, ◌≤◌, ◌<◌};
-    ghost use Rattle.mm_base.specs.Tapes.{Tape};
+    ghost use Rattle.mm_base.specs.DeviceStates.{SourceState};
 
-    ghost Value = { Tape };
+    ghost Value = { SourceState };
 
     ghost view = { λ s. record {
       left = drop s.at s.bytes.items;

@@ -1,3 +1,3 @@
-pub mod EndedLaws
-pub mod RunLaws
-pub mod StepLaws
+pub mod EndedLemmas
+pub mod RunLemmas
+pub mod StepLemmas

@@ -31,7 +31,7 @@ fn cut(fault: JobFault) -> Status
 }
 
 /// What one read of the source brought.
-enum Step {
+enum ReadStep {
     /// The end of the source.
     End,
     /// So many bytes, and the job goes on.
@@ -48,36 +48,36 @@ fn read_piece<S: Source, K: Sink, L: Ledger>(
     source: &mut S,
     sink: &mut K,
     steps: &mut Steps<L>,
-) -> Step
+) -> ReadStep
     requires live { job.old.live ≡ true }
     requires some { 0 < length buffer.old }
     requires room { length job.old.text + length buffer.old ≤ most_bytes + 1 }
-    ensures end { result ≡ Step.End → (job.new ≡ job.old) × IsAtEnd (S.left source.new) ×
+    ensures end { result ≡ ReadStep.End → (job.new ≡ job.old) × IsAtEnd (S.left source.new) ×
         ((left held : Option (List ℕ)) → SoFar job.old.limit left (S.left source.old) held (K.held sink.old) job.old.text →
         SoFar job.old.limit left (S.left source.new) held (K.held sink.new) job.old.text) }
-    ensures more { (n : ℕ) → result ≡ Step.More n → (length job.new.text ≡ length job.old.text + n) × (0 < n) × (n ≤ length buffer.old)
+    ensures more { (n : ℕ) → result ≡ ReadStep.More n → (length job.new.text ≡ length job.old.text + n) × (0 < n) × (n ≤ length buffer.old)
         × (job.new.limit ≡ job.old.limit) × (job.new.live ≡ true) ×
         ((left held : Option (List ℕ)) → SoFar job.old.limit left (S.left source.old) held (K.held sink.old) job.old.text →
         SoFar job.old.limit left (S.left source.new) held (K.held sink.new) job.new.text) }
-    ensures stop { (s : Status) → result ≡ Step.Stop s →
+    ensures stop { (s : Status) → result ≡ ReadStep.Stop s →
         ((left held : Option (List ℕ)) → SoFar job.old.limit left (S.left source.old) held (K.held sink.old) job.old.text →
         Ran job.old.limit left (S.left source.new) held (K.held sink.new) s) }
     ensures read_later { S.faults source.old ≤ S.faults source.new }
-    ensures read_fault { result ≡ Step.Stop ends.ReadFault → Rose (S.faults source.old) (S.faults source.new) }
+    ensures read_fault { result ≡ ReadStep.Stop ends.ReadFault → Rose (S.faults source.old) (S.faults source.new) }
     ensures write_later { K.faults sink.old ≤ K.faults sink.new }
-    ensures write_fault { result ≡ Step.Stop ends.WriteFault → Rose (K.faults sink.old) (K.faults sink.new) }
+    ensures write_fault { result ≡ ReadStep.Stop ends.WriteFault → Rose (K.faults sink.old) (K.faults sink.new) }
     ensures steps { steps.new ≡ steps.old }
 {
     let Ok(count) = source.read(buffer) else {
-        return Step::Stop(Status::ReadFault);
+        return ReadStep::Stop(Status::ReadFault);
     };
     if count == 0 {
-        return Step::End;
+        return ReadStep::End;
     }
     match job.feed(alloc, &buffer[..count], sink, steps) {
-        Ok(Progress::More) => Step::More(count),
-        Ok(Progress::Ended(status)) => Step::Stop(status),
-        Err(fault) => Step::Stop(cut(fault)),
+        Ok(Progress::More) => ReadStep::More(count),
+        Ok(Progress::Ended(status)) => ReadStep::Stop(status),
+        Err(fault) => ReadStep::Stop(cut(fault)),
     }
 }
 
@@ -104,9 +104,9 @@ fn read_pieces<S: Source, K: Sink, L: Ledger>(
     'pieces: while taken < MOST_BYTES {
         let want = PIECE.min(MOST_BYTES - taken);
         match read_piece(alloc, job, &mut buffer[..want], source, sink, steps) {
-            Step::End => return None,
-            Step::More(count) => taken += count,
-            Step::Stop(status) => return Some(status),
+            ReadStep::End => return None,
+            ReadStep::More(count) => taken += count,
+            ReadStep::Stop(status) => return Some(status),
         }
     }
     None

@@ -5,9 +5,9 @@ ghost use Rattle.mm_lines.specs.Numbers.{number_of};
 ghost use Rattle.mm_cli.specs.Words.{IsWithinLimit, alone, command_of, is_matrix_of_order, is_small_matrix, limited, most_limit, not_built, number_within, with_joined, with_three, with_two};
 
 use mm_field::Field;
+use mm_job_text::{is_text, read_vectors};
 use mm_lines::read_i64;
 use mm_space::Gen;
-use mm_words::{is_text, read_vectors};
 
 /// The greatest limit on sizes, which holds where none is given.
 const MOST_LIMIT: u64 = 4_194_304;

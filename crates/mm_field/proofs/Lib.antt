@@ -1,6 +1,6 @@
 pub mod Tables
-mod TableLaws
-mod StepLaws
-pub mod VectorLaws
-pub mod CombinationLaws
-pub mod PartLaws
+mod TableLemmas
+mod StepLemmas
+pub mod VectorLemmas
+pub mod CombinationLemmas
+pub mod PartLemmas

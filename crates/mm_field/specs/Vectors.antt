@@ -25,8 +25,8 @@ combination f n (c ∷ cs) [] = zeros n
 combination f n (c ∷ cs) (v ∷ vs) = vector_sum f (multiple f c v) (combination f n cs vs)
 
 -- b times the matrix g, whose rows have r digits
-abbrev pub through : Field → ℕ → List (List ℕ) → List ℕ → List ℕ
-through f r g b = combination f r b g
+abbrev pub times_matrix : Field → ℕ → List (List ℕ) → List ℕ → List ℕ
+times_matrix f r g b = combination f r b g
 
 -- all entries of v are digits of the field
 abbrev pub AreDigits : Field → List ℕ → Type 0

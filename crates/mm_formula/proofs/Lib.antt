@@ -1,5 +1,5 @@
-pub mod SameLaws
-pub mod RepeatLaws
-mod PaddedLaws
-pub mod ScopeLaws
-pub mod SlotLaws
+pub mod SameLemmas
+pub mod RepeatLemmas
+mod PaddedLemmas
+pub mod ScopeLemmas
+pub mod SlotLemmas

@@ -7,7 +7,7 @@ use Rattle.mm_formula.specs.declared.var.Var.TheInside.{Inside}
 abbrev pub text_of : Inside → List ℕ
 text_of v = take v.len v.bytes
 
--- the text is a variable, and the bytes behind it are 0
+-- the text is a variable, and the bytes after it are 0
 pub record IsPadded (v : Inside) : Type 0 where
   pub size : length v.bytes ≡ 16
   pub within : v.len ≤ 16

@@ -84,7 +84,7 @@ fn first_outside(vars: &[Var], binders: &Binders<'_>) -> Option<Var>
 }
 
 /// The first of the variables that nothing binds.
-#[tactic(auto, using(crate::proofs::ScopeLaws::first_kept))]
+#[tactic(auto, using(crate::proofs::ScopeLemmas::first_kept))]
 fn unbound_of_all(vars: &[Var], binders: &Binders<'_>) -> Option<Var>
     ensures { result ≡ slice_get (without (names binders.now) vars.now) 0 }
 {
@@ -112,7 +112,7 @@ fn first_unbound(formula: &Formula, binders: &Binders<'_>) -> Option<Var>
     }
 }
 
-/// What is left of `room` nodes behind those of the formula; `None` where it has more.
+/// What is left of `room` nodes after those of the formula; `None` where it has more.
 fn spend_nodes(formula: &Formula, room: usize) -> Option<usize>
     ensures { result ≡ (if nat_le (nodes (syntax_of formula.now)) room then Some (room - nodes (syntax_of formula.now)) else None) }
 {

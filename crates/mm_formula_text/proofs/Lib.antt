@@ -1,7 +1,7 @@
-pub mod TokenLaws
+pub mod TokenLemmas
 pub mod Precedence
-pub mod ReadsAllLaws
-pub mod ReadsOnlyLaws
-pub mod TextLaws
-pub mod CanonicalLaws
-pub mod PartsLaws
+pub mod ReadsAllLemmas
+pub mod ReadsOnlyLemmas
+pub mod TextLemmas
+pub mod CanonicalLemmas
+pub mod PartsLemmas

@@ -6,7 +6,7 @@ use Rattle.mm_formula.specs.Syntax.Syntax.{Const, Ind, Member, SameElem, Sub, Sa
 use Rattle.mm_formula.specs.declared.formula.Connective as joint
 use Rattle.mm_formula.specs.declared.formula.Connective.TheVariants.{And, Or, Implies, Iff}
 
--- a variable behind a bar
+-- a variable after a bar
 abbrev pub barred : List ℕ → List ℕ
 barred v = codes "|" ++ v
 

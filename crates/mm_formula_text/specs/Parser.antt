@@ -25,19 +25,19 @@ pub data Frame : Type 0 where
 pub data Mode : Type 0 where
   -- a formula begins
   Operand : Mode
-  -- behind a quantifier
+  -- after a quantifier
   Bound : quantifiers.Quantifier → Mode
-  -- behind a variable of an atom, and behind its relation
+  -- after a variable of an atom, and after its relation
   First : List ℕ → Mode
   Second : List ℕ → relations.Relation → Mode
-  -- behind `ind`, and behind its parenthesis
+  -- after `ind`, and after its parenthesis
   Independent : Mode
   TermBegins : Mode
-  -- behind `0`, behind a part of a term, and behind a bar
+  -- after `0`, after a part of a term, and after a bar
   Nothing : Mode
   Parts : Term → Mode
   NextPart : Term → Mode
-  -- behind a formula
+  -- after a formula
   Complete : formula.Syntax → Mode
 
 pub record State : Type 0 where
@@ -141,7 +141,7 @@ next_part frames t (Variable v) = goes frames (Parts (mention t v))
 next_part frames t Star = goes frames (Parts (mention_all t))
 next_part frames t _ = None
 
--- behind the formula that a parenthesis awaited
+-- after the formula that a parenthesis awaited
 abbrev pub leave : List Frame × formula.Syntax → Option State
 leave p = leave_frames p.0 p.1
   where
@@ -169,7 +169,7 @@ step_in frames (Parts u) t = parts frames u t
 step_in frames (NextPart u) t = next_part frames u t
 step_in frames (Complete F) t = complete frames F t
 
--- the state behind one more token; none where no formula goes on so
+-- the state after one more token; none where no formula goes on so
 unfoldable pub step : State → Token → Option State
 step s t = step_in s.frames s.mode t
 

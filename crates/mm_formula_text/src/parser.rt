@@ -26,7 +26,7 @@ pub enum Frame {
     Binder(Quantifier, Var),
     /// `(`
     Parenthesis,
-    /// A formula and the connective behind it.
+    /// A formula and the connective after it.
     Left(Connective, Box<Formula>),
 }
 
@@ -35,23 +35,23 @@ pub enum Frame {
 pub enum Mode {
     /// A formula begins.
     Operand,
-    /// Behind a quantifier.
+    /// After a quantifier.
     Bound(Quantifier),
-    /// Behind the first variable of an atom.
+    /// After the first variable of an atom.
     First(Var),
-    /// Behind the relation of an atom.
+    /// After the relation of an atom.
     Second(Var, Relation),
-    /// Behind `ind`.
+    /// After `ind`.
     Independent,
-    /// Behind the parenthesis of `ind`.
+    /// After the parenthesis of `ind`.
     TermBegins,
-    /// Behind `0`.
+    /// After `0`.
     Nothing,
-    /// Behind a part of a term.
+    /// After a part of a term.
     Parts(Parts),
-    /// Behind the bar of a term.
+    /// After the bar of a term.
     NextPart(Parts),
-    /// Behind a formula.
+    /// After a formula.
     Complete(Formula),
 }
 
@@ -186,7 +186,7 @@ fn no_elements(alloc: Global) -> Term
     }
 }
 
-/// Puts a formula and the connective behind it on the stack.
+/// Puts a formula and the connective after it on the stack.
 fn push_left(
     alloc: Global,
     stack: &mut Stack,

@@ -18,7 +18,7 @@ fn write_var(alloc: Global, out: &mut Text, v: &Var) -> Result<(), NoMemory>
     out.append(alloc, v.bytes())
 }
 
-/// The variables, each behind a bar.
+/// The variables, each after a bar.
 fn write_barred(alloc: Global, out: &mut Text, vars: &[Var]) -> Result<(), NoMemory>
     ensures text { OnOk result (out.new ≡ out.old ++ flat_map barred vars.now) }
     ensures words { OnOk result (list_all is_var vars.now ≡ true) }
@@ -85,7 +85,7 @@ fn write_ind(alloc: Global, out: &mut Text, term: &Term) -> Result<(), NoMemory>
     out.append(alloc, b")")
 }
 
-/// A quantifier's word and its variable, each with a blank behind it.
+/// A quantifier's word and its variable, each with a blank after it.
 fn write_binder(alloc: Global, out: &mut Text, quantifier: &[u8], v: &Var) -> Result<(), NoMemory>
     ensures text { OnOk result (out.new ≡ out.old ++ (quantifier.now ++ (v.now ++ codes " "))) }
     ensures word { OnOk result (is_var v.now ≡ true) }

@@ -19,7 +19,7 @@ fn begins_in_blank(text: &[u8]) -> bool
     }
 }
 
-#[tactic(auto, using(crate::proofs::TextLaws::last_byte))]
+#[tactic(auto, using(crate::proofs::TextLemmas::last_byte))]
 fn ends_in_blank(text: &[u8]) -> bool
     ensures { result ≡ ends_in_blank text.now }
 {

@@ -7,14 +7,14 @@ use Rattle.mm_job.specs.Edits.{Reply, Denied, check_names, check_rows, compared_
 use Rattle.mm_job.specs.Header.{Session}
 use Rattle.mm_job.specs.Items.{Rest, items, rest_of_block}
 use Rattle.mm_present.specs.Comparing.{Named, compared}
-use Rattle.mm_job.specs.Output.{Ending, after_reply, cut_short, reply_line, told_items}
-use Rattle.mm_job.specs.Heads.{IsMatrix}
+use Rattle.mm_job.specs.Output.{Ending, after_reply, cut_short, reply_line, lines_of_items}
+use Rattle.mm_job.specs.HeaderStates.{IsMatrix}
 use Rattle.mm_job.specs.declared.block.Block.{Block}
 use Rattle.mm_job.specs.declared.block.Block.TheVariants as begun
-use Rattle.mm_job.specs.declared.said.Said.{Said}
+use Rattle.mm_job.specs.declared.output_line.OutputLine.{OutputLine}
 use Rattle.mm_lines.specs.declared.line.Line.{Line}
-use Rattle.mm_words.specs.Demands.{◌>>=◌}
-use Rattle.mm_words.specs.Readers.{Reading}
+use Rattle.mm_job_text.specs.Checks.{◌>>=◌}
+use Rattle.mm_job_text.specs.Readers.{Reading}
 
 -- The reply of a check that was read.
 abbrev pub reply_of : Session → Reading Named → Reply
@@ -36,17 +36,17 @@ abbrev pub AreBegun : Field → Option Block → Type 0
 AreBegun f None = Unit {0}
 AreBegun f (Some b) = IsBegun f b
 
--- What is written for a block that has begun, and for the items behind it.
-abbrev pub told_rest : Ending → Session → Block → Rest → List Said
-told_rest e s b None = cut_short e
-told_rest e s b (Some rest) = reply_line (block_from s b rest.0) ∷ told_items e (after_reply s (block_from s b rest.0)) rest.1
+-- What is written for a block that has begun, and for the items after it.
+abbrev pub written_rest : Ending → Session → Block → Rest → List OutputLine
+written_rest e s b None = cut_short e
+written_rest e s b (Some rest) = reply_line (block_from s b rest.0) ∷ lines_of_items e (after_reply s (block_from s b rest.0)) rest.1
 
 -- What is written for the lines that are left, where a block has begun or not.
-abbrev pub told_from : Ending → Session → Option Block → List Line → List Said
-told_from e s None rs = told_items e s (items rs)
-told_from e s (Some b) rs = told_rest e s b (rest_of_block rs)
+abbrev pub lines_from_block : Ending → Session → Option Block → List Line → List OutputLine
+lines_from_block e s None rs = lines_of_items e s (items rs)
+lines_from_block e s (Some b) rs = written_rest e s b (rest_of_block rs)
 
 -- The line that a step writes, if it writes one.
-abbrev pub written : Option Said → List Said
+abbrev pub written : Option OutputLine → List OutputLine
 written None = []
-written (Some said) = said ∷ []
+written (Some output_line) = output_line ∷ []

@@ -3,10 +3,10 @@ use Rattle.std.specs.Prelude.{ℕ, Ok, Err}
 use Rattle.std.specs.declared.result.Result.{Result}
 use Rattle.mm_tree.specs.declared.builder.BuildFault.{BuildFault}
 use Rattle.mm_tree.specs.declared.builder.BuildFault.TheVariants as fault
-use Rattle.mm_words.specs.declared.refusal.Limit.TheVariants as limit
-use Rattle.mm_words.specs.declared.refusal.Refusal.TheVariants as refusal
-use Rattle.mm_words.specs.declared.refusal.Stop.{Stop}
-use Rattle.mm_words.specs.declared.refusal.Stop.TheVariants.{Refused, NoMemory}
+use Rattle.mm_job_text.specs.declared.refusal.Limit.TheVariants as limit
+use Rattle.mm_job_text.specs.declared.refusal.Refusal.TheVariants as refusal
+use Rattle.mm_job_text.specs.declared.refusal.Stop.{Stop}
+use Rattle.mm_job_text.specs.declared.refusal.Stop.TheVariants.{Refused, NoMemory}
 
 -- Why the line with number n is not taken, by what a builder of trees finds at fault.
 abbrev pub stop_of : ℕ → BuildFault → Stop

@@ -12,16 +12,16 @@ use Rattle.mm_lines.specs.Numbers.{u32_of, i64_of}
 use Rattle.mm_lines.specs.declared.line.Line.{Line}
 use Rattle.mm_tree.specs.NamedTree.{Tree, boundary, depth, leaf_names, element_names, is_one_of, nodes}
 use Rattle.mm_tree.specs.ValidTree.{most_leaves, most_depth, most_weight}
-use Rattle.mm_tree.specs.Ways.{Way, way_to, node_at, with_node, names_outside, with_weight}
-use Rattle.mm_words.specs.Arguments.{args, begins, is_word, two_of}
-use Rattle.mm_words.specs.Demands.{◌>>=◌, ◌>>◌, demand, found, within}
-use Rattle.mm_words.specs.HeaderLines.{elements_line, row_line}
-use Rattle.mm_words.specs.Readers.{Reading, Read, Refused, Short, each, line, whole}
-use Rattle.mm_words.specs.Readers.{◌>>=◌ as ◌>>>=◌}
-use Rattle.mm_words.specs.TreeLines.{tree_lines}
-use Rattle.mm_words.specs.declared.refusal.Limit.TheVariants as limit
-use Rattle.mm_words.specs.declared.refusal.Refusal.{Refusal}
-use Rattle.mm_words.specs.declared.refusal.Refusal.TheVariants as refusal
+use Rattle.mm_tree.specs.Paths.{Path, path_to, node_at, with_node, names_outside, with_weight}
+use Rattle.mm_job_text.specs.Arguments.{args, begins, is_word, two_of}
+use Rattle.mm_job_text.specs.Checks.{◌>>=◌, ◌>>◌, require, found, within}
+use Rattle.mm_job_text.specs.HeaderLines.{elements_line, row_line}
+use Rattle.mm_job_text.specs.Readers.{Reading, Read, Refused, Short, each, line, whole}
+use Rattle.mm_job_text.specs.Readers.{◌>>=◌ as ◌>>>=◌}
+use Rattle.mm_job_text.specs.TreeLines.{tree_lines}
+use Rattle.mm_job_text.specs.declared.refusal.Limit.TheVariants as limit
+use Rattle.mm_job_text.specs.declared.refusal.Refusal.{Refusal}
+use Rattle.mm_job_text.specs.declared.refusal.Refusal.TheVariants as refusal
 
 -- An edit that the present tree allows: the tree after it, and its cost.
 pub record Applied : Type 0 where
@@ -34,7 +34,7 @@ pub record Applied : Type 0 where
 unfoldable pub weight_words : Line → Result (List ℕ × ℤ) Refusal
 weight_words r = do
   t ← found (two_of (args r)) (refusal.Syntax r.number)
-  demand (is_name t.0) (refusal.Syntax r.number)
+  require (is_name t.0) (refusal.Syntax r.number)
   weight ← found (i64_of t.1) (refusal.Syntax r.number)
   Ok (t.0, weight)
 
@@ -42,9 +42,9 @@ weight_words r = do
 unfoldable pub weight_change : Tree → ℕ → List ℕ → ℤ → Result Applied Refusal
 weight_change tree n name weight = do
   within (nat_abs weight) most_weight limit.Weight n
-  demand (is_one_of name (element_names tree)) (refusal.Unknown name)
-  way ← found (way_to name tree) (refusal.Unknown name)
-  Ok (record { tree = with_weight name weight tree; cost = length way + 1 })
+  require (is_one_of name (element_names tree)) (refusal.Unknown name)
+  path ← found (path_to name tree) (refusal.Unknown name)
+  Ok (record { tree = with_weight name weight tree; cost = length path + 1 })
 
 unfoldable pub weight_edit : Session → Line → Result Applied Refusal
 weight_edit s r = do
@@ -67,32 +67,32 @@ none_taken (Some name) = Err (refusal.Taken name)
 unfoldable pub replace_words : Line → Result (List ℕ × ℕ) Refusal
 replace_words r = do
   t ← found (two_of (args r)) (refusal.Syntax r.number)
-  demand (is_name t.0) (refusal.Syntax r.number)
+  require (is_name t.0) (refusal.Syntax r.number)
   up ← found (u32_of t.1) (refusal.Syntax r.number)
   Ok (t.0, up)
 
 -- The way to the node so many steps above the leaf of a name.
-unfoldable pub way_above : Tree → List ℕ → ℕ → Result Way Refusal
-way_above tree name up = do
-  way ← found (way_to name tree) (refusal.Unknown name)
-  demand (nat_le up (length way)) (refusal.NoNode name up)
-  Ok (take (length way - up) way)
+unfoldable pub path_above : Tree → List ℕ → ℕ → Result Path Refusal
+path_above tree name up = do
+  path ← found (path_to name tree) (refusal.Unknown name)
+  require (nat_le up (length path)) (refusal.NoNode name up)
+  Ok (take (length path - up) path)
 
 -- The tree with the node at the end of a way exchanged, by a block whose `end` has this number.
-unfoldable pub exchanged : Tree → Way → Tree → ℕ → Result Applied Refusal
-exchanged tree way new n = do
-  demand (boundary (node_at tree way) == boundary new) (refusal.Boundary (boundary (node_at tree way)) (boundary new))
-  none_taken (find (λ name. is_one_of name (names_outside tree way)) (leaf_names new))
-  within (length (leaf_names (with_node tree way new))) most_leaves limit.Leaves n
-  within (depth (with_node tree way new)) most_depth limit.Depth n
-  Ok (record { tree = with_node tree way new; cost = length way + nodes new })
+unfoldable pub exchanged : Tree → Path → Tree → ℕ → Result Applied Refusal
+exchanged tree path new n = do
+  require (boundary (node_at tree path) == boundary new) (refusal.Boundary (boundary (node_at tree path)) (boundary new))
+  none_taken (find (λ name. is_one_of name (names_outside tree path)) (leaf_names new))
+  within (length (leaf_names (with_node tree path new))) most_leaves limit.Leaves n
+  within (depth (with_node tree path new)) most_depth limit.Depth n
+  Ok (record { tree = with_node tree path new; cost = length path + nodes new })
 
 -- A new subtree for the node so many steps above a leaf, by the lines of its block.
 unfoldable pub replacement : Session → List ℕ → ℕ → List Line → Result Applied Refusal
 replacement s name up rs = do
-  way ← way_above s.tree name up
+  path ← path_above s.tree name up
   new ← read_whole (tree_lines s.f s.ops [] rs)
-  exchanged s.tree way new.0 new.1
+  exchanged s.tree path new.0 new.1
 
 unfoldable pub replace_edit : Session → Line → List Line → Result Applied Refusal
 replace_edit s r rs = do
@@ -102,15 +102,15 @@ replace_edit s r rs = do
 -- ---- `check`, and the lines of its block
 
 unfoldable pub check_end : Line → Result (Unit {0}) Refusal
-check_end r = demand (is_word (codes "end") r) (refusal.Syntax r.number)
+check_end r = require (is_word (codes "end") r) (refusal.Syntax r.number)
 
--- The `row` lines of a check behind these names and rows, and its `end`.
+-- The `row` lines of a check after these names and rows, and its `end`.
 unfoldable pub check_rows : Field → List (List ℕ) → List (List ℕ) → List Line → Reading Named
 check_rows f names rows = each (begins (codes "row")) (row_line f (length names)) rows >>>= λ rows.
     line check_end >>>= λ u rest.
     Read (record { names = names; rows = rows }) rest
 
--- The `elements` and `row` lines of a check behind these names, and its `end`.
+-- The `elements` and `row` lines of a check after these names, and its `end`.
 unfoldable pub check_names : Field → List (List ℕ) → List Line → Reading Named
 check_names f names = each (begins (codes "elements")) elements_line names >>>= λ names. check_rows f names []
 
@@ -120,7 +120,7 @@ is_same v = false
 
 -- The first line of a check has no arguments.
 unfoldable pub check_words : Line → Result (Unit {0}) Refusal
-check_words r = demand (length (args r) == 0) (refusal.Syntax r.number)
+check_words r = require (length (args r) == 0) (refusal.Syntax r.number)
 
 -- Whether the given rows agree with the present tree.
 unfoldable pub checked : Session → Line → List Line → Result Bool Refusal

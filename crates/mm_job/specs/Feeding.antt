@@ -1,11 +1,11 @@
--- What a job has written of the lines that it has taken, whatever comes behind them.
+-- What a job has written of the lines that it has taken, whatever comes after them.
 use Rattle.std.specs.Prelude.{◌≡◌, ℕ, ◌≤◌, List, ◌++◌, length, drop, Option}
 use Rattle.std.specs.Io.KnownBytes.{Appends}
-use Rattle.mm_job.specs.Courses.{come_to}
+use Rattle.mm_job.specs.JobStates.{come_to}
 use Rattle.mm_job.specs.Output.{Ending, printed_all}
-use Rattle.mm_job.specs.Stages.{told_by}
-use Rattle.mm_job.specs.declared.course.Course.{Course}
-use Rattle.mm_job.specs.declared.said.Said.{Said}
+use Rattle.mm_job.specs.Stages.{lines_from_stage}
+use Rattle.mm_job.specs.declared.state.JobState.{JobState}
+use Rattle.mm_job.specs.declared.output_line.OutputLine.{OutputLine}
 use Rattle.mm_lines.specs.Lines.{lines_of}
 use Rattle.mm_lines.specs.Streams.{Stream}
 use Rattle.mm_lines.specs.declared.line.Line.{Line}
@@ -18,9 +18,9 @@ left s = drop s.handed (lines_of s.ended s.bytes)
 abbrev pub IsWithin : Stream → Type 0
 IsWithin s = s.handed ≤ length (lines_of s.ended s.bytes)
 
--- A job that has taken some lines has written what they say, whatever lines come behind, and knows what they come to.
-pub record Fed (limit : ℕ) (old new : Course) (lines lines_new : List Line) (held held_new : Option (List ℕ)) : Type 0 where
-  pub said : List Said
-  pub grew : Appends held held_new (printed_all said)
-  pub same : (e : Ending) (rs : List Line) → told_by limit old.stage e (lines ++ rs) ≡ said ++ told_by limit new.stage e (lines_new ++ rs)
-  pub comes : new.status ≡ come_to old.status said
+-- A job that has taken some lines has written what they say, whatever lines come after, and knows what they come to.
+pub record Fed (limit : ℕ) (old new : JobState) (lines lines_new : List Line) (held held_new : Option (List ℕ)) : Type 0 where
+  pub output_line : List OutputLine
+  pub grew : Appends held held_new (printed_all output_line)
+  pub same : (e : Ending) (rs : List Line) → lines_from_stage limit old.stage e (lines ++ rs) ≡ output_line ++ lines_from_stage limit new.stage e (lines_new ++ rs)
+  pub comes : new.status ≡ come_to old.status output_line

@@ -9,21 +9,21 @@ use Rattle.mm_present.specs.declared.verdict.Verdict.TheVariants as verdict
 use Rattle.mm_job.specs.NotBuilt.{is_built, may_be_over, over_limit}
 use Rattle.mm_job.specs.QueryLines.{query_line}
 use Rattle.mm_lines.specs.declared.line.Line.{Line}
-use Rattle.mm_ops.specs.Tables.{Named as NamedOps}
+use Rattle.mm_ops.specs.Tables.{OperatorList as NamedOps}
 use Rattle.mm_tree.specs.NamedTree.{Tree}
-use Rattle.mm_words.specs.Arguments.{begins}
-use Rattle.mm_words.specs.Demands.{demand}
-use Rattle.mm_words.specs.Demands.{◌>>=◌ as ◌>>>=◌}
-use Rattle.mm_words.specs.HeaderLines.{format_line, field_line, elements_line, row_line, tree_line}
-use Rattle.mm_words.specs.OperatorLines.{op_line}
-use Rattle.mm_words.specs.Readers.{Reader, ◌>>=◌, ◌>>◌, and_then, now, line, each, whole}
-use Rattle.mm_words.specs.TreeLines.{tree_lines}
-use Rattle.mm_words.specs.declared.format.Format.{Format}
-use Rattle.mm_words.specs.declared.refusal.Refusal.{Refusal}
-use Rattle.mm_words.specs.declared.refusal.Refusal.TheVariants as refusal
+use Rattle.mm_job_text.specs.Arguments.{begins}
+use Rattle.mm_job_text.specs.Checks.{require}
+use Rattle.mm_job_text.specs.Checks.{◌>>=◌ as ◌>>>=◌}
+use Rattle.mm_job_text.specs.HeaderLines.{format_line, field_line, elements_line, row_line, tree_line}
+use Rattle.mm_job_text.specs.OperatorLines.{op_line}
+use Rattle.mm_job_text.specs.Readers.{Reader, ◌>>=◌, ◌>>◌, and_then, now, line, each, whole}
+use Rattle.mm_job_text.specs.TreeLines.{tree_lines}
+use Rattle.mm_job_text.specs.declared.format.Format.{Format}
+use Rattle.mm_job_text.specs.declared.refusal.Refusal.{Refusal}
+use Rattle.mm_job_text.specs.declared.refusal.Refusal.TheVariants as refusal
 
 -- What the lines before the tree give.
-pub record Given : Type 0 where
+pub record HeaderData : Type 0 where
   pub version : Format
   pub f : Field
   pub names : List (List ℕ)
@@ -47,7 +47,7 @@ matched (verdict.Present j) = Err (refusal.Present j)
 
 -- A tree of a session is not over the limit.
 abbrev pub within_limit : Session → Tree → Result (Unit {0}) Refusal
-within_limit s tree = demand (not (may_be_over s.limit s.query tree)) over_limit
+within_limit s tree = require (not (may_be_over s.limit s.query tree)) over_limit
 
 -- A session, where its tree is not over the limit.
 abbrev pub started : Session → Result Session Refusal
@@ -55,25 +55,25 @@ started s = within_limit s s.tree >>>= λ u. Ok s
 
 -- What stands before the query: what the lines before the tree give, and the tree.
 abbrev pub Parts : Type 0
-Parts = Given × Tree
+Parts = HeaderData × Tree
 
-unfoldable pub tree_part_of : Given → List Tree → Reader Parts
+unfoldable pub tree_part_of : HeaderData → List Tree → Reader Parts
 tree_part_of g trees = do
   tree ← tree_lines g.f g.ops trees
   now (Ok (g, tree.0))
 
-unfoldable pub ops_part : Given → Reader Parts
+unfoldable pub ops_part : HeaderData → Reader Parts
 ops_part g = do
   ops ← each (begins (codes "op")) (op_line g.version g.f) g.ops
   line tree_line
   tree_part_of (record g { ops = ops }) []
 
-unfoldable pub rows_part : Given → Reader Parts
+unfoldable pub rows_part : HeaderData → Reader Parts
 rows_part g = do
   rows ← each (begins (codes "row")) (row_line g.f (length g.names)) g.rows
   ops_part (record g { rows = rows })
 
-unfoldable pub elements_part : Given → Reader Parts
+unfoldable pub elements_part : HeaderData → Reader Parts
 elements_part g = do
   names ← each (begins (codes "elements")) elements_line g.names
   rows_part (record g { names = names })
@@ -91,7 +91,7 @@ parts = do
 
 -- A query that is built.
 abbrev pub built : Query → Result (Unit {0}) Refusal
-built query = demand (is_built query) refusal.NotBuilt
+built query = require (is_built query) refusal.NotBuilt
 
 -- The query of its line, where it is built.
 abbrev pub built_line : Line → Result Query Refusal
@@ -117,6 +117,6 @@ header limit = do
   s ← header_lines limit
   now (started s)
 
--- The header behind the lines before its query.
-abbrev pub behind_parts : ℕ → Parts → Reader Session
-behind_parts limit p rs = and_then (query_part limit p rs) (λ s. now (started s))
+-- The header after the lines before its query.
+abbrev pub after_parts : ℕ → Parts → Reader Session
+after_parts limit p rs = and_then (query_part limit p rs) (λ s. now (started s))

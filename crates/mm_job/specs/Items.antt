@@ -1,14 +1,14 @@
--- The items behind a header: a block is one, and so is every other line.
+-- The items after a header: a block is one, and so is every other line.
 use Rattle.std.specs.Prelude.{Bool, ◌||◌, List, [], ◌∷◌, codes, Option, Some, None, if◌then◌else◌}
 use Rattle.mm_lines.specs.declared.line.Line.{Line}
-use Rattle.mm_words.specs.Arguments.{begins, is_word}
+use Rattle.mm_job_text.specs.Arguments.{begins, is_word}
 
 pub data Items : Type 0 where
   NoMore : Items
   -- a block without its end
   Unended : Items
   Single : Line → Items → Items
-  -- a block: its first line, the others with its `end`, and the items behind it
+  -- a block: its first line, the others with its `end`, and the items after it
   Block : Line → List Line → Items → Items
 
 -- A line that opens a block.
@@ -19,7 +19,7 @@ opens r = begins (codes "replace") r || begins (codes "check") r
 abbrev pub closes : Line → Bool
 closes r = is_word (codes "end") r
 
--- The rest of a block, and the items behind it.
+-- The rest of a block, and the items after it.
 abbrev pub Rest : Type 0
 Rest = Option (List Line × Items)
 
@@ -37,7 +37,7 @@ unfoldable mutual
   items [] = NoMore
   items (r ∷ rs) = if opens r then block_of r (rest_of_block rs) else Single r (items rs)
 
-  -- The lines of a block up to its `end`, and the items behind it.
+  -- The lines of a block up to its `end`, and the items after it.
   pub rest_of_block : List Line → Rest
   rest_of_block [] = None
   rest_of_block (r ∷ rs) = if closes r then Some (r ∷ [], items rs) else after_line r (rest_of_block rs)

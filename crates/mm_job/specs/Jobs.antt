@@ -10,32 +10,32 @@ use Rattle.mm_job.specs.declared.progress.JobFault.{JobFault}
 use Rattle.mm_job.specs.declared.progress.JobFault.TheVariants as fault
 use Rattle.mm_job.specs.declared.progress.Progress.{Progress}
 use Rattle.mm_job.specs.declared.progress.Progress.TheVariants.{More, Ended}
-use Rattle.mm_job.specs.declared.said.Said.{Said}
+use Rattle.mm_job.specs.declared.output_line.OutputLine.{OutputLine}
 
 -- A job: the text so far, the limit on sizes, and whether it goes on.
-pub record JobState : Type 0 where
+pub record JobValue : Type 0 where
   pub text : List ℕ
   pub limit : ℕ
   pub live : Bool
 
--- A text with a piece more, cut behind the first byte that is too many.
+-- A text with a piece more, cut after the first byte that is too many.
 abbrev pub with_piece : List ℕ → List ℕ → List ℕ
 with_piece text piece = take (most_bytes + 1) (text ++ piece)
 
--- What a sink holds has grown by what one output has behind another.
+-- What a sink holds has grown by what one output has after another.
 pub record Grew (held held_new : Option (List ℕ)) (before now : List ℕ) : Type 0 where
   pub wrote : List ℕ
   pub grew : Appends held held_new wrote
   pub whole : before ++ wrote ≡ now
 
--- What a sink holds has grown by a front of what one output has behind another.
+-- What a sink holds has grown by a front of what one output has after another.
 pub record GrewByFront (held held_new : Option (List ℕ)) (before now : List ℕ) : Type 0 where
   pub rest : List ℕ
   pub grew : GrowsByFront held held_new rest
   pub whole : before ++ rest ≡ now
 
 -- The first line refuses the header.
-abbrev pub begins_refused : List Said → Bool
+abbrev pub begins_refused : List OutputLine → Bool
 begins_refused [] = false
 begins_refused (first ∷ rest) = is_refusal first
 

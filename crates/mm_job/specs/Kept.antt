@@ -1,12 +1,12 @@
 -- The fields of a job, and the facts that keep them.
 use Rattle.std.specs.Prelude.{◌≡◌, ◌≤◌, true, length}
 use Rattle.mm_lines.specs.Lines.{most_bytes}
-use Rattle.mm_job.specs.Jobs.{JobState}
+use Rattle.mm_job.specs.Jobs.{JobValue}
 use Rattle.mm_job.specs.Standing.{IsRead, Stands}
 use Rattle.mm_job.specs.declared.job.Job.TheInside.{Inside}
 
 -- what callers see of the fields
-abbrev pub state_of : Inside → JobState
+abbrev pub state_of : Inside → JobValue
 state_of j = record { text = j.framer.bytes; limit = j.limit; live = j.live }
 
 -- A job that goes on has taken all lines of its text, which is not too long, and stands for it.
@@ -14,7 +14,7 @@ pub record IsLive (j : Inside) : Type 0 where
   pub taken : j.taken ≡ length j.framer.bytes
   pub size : length j.framer.bytes ≤ most_bytes
   pub stream : IsRead j.framer
-  pub stands : Stands j.limit j.framer.bytes j.course
+  pub stands : Stands j.limit j.framer.bytes j.state
 
 abbrev pub IsJob : Inside → Type 0
 IsJob j = j.live ≡ true → IsLive j

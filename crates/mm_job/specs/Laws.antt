@@ -4,8 +4,8 @@ use Rattle.mm_job.specs.Header.{header}
 use Rattle.mm_job.specs.Output.{settled_output, output, end_of}
 use Rattle.mm_lines.specs.Fronts.{IsFront}
 use Rattle.mm_lines.specs.Lines.{settled}
-use Rattle.mm_words.specs.Readers.{Refused}
-use Rattle.mm_words.specs.declared.refusal.Refusal.{Refusal}
+use Rattle.mm_job_text.specs.Readers.{Refused}
+use Rattle.mm_job_text.specs.declared.refusal.Refusal.{Refusal}
 
 -- What is settled in a text is a front of what is settled when it goes on, and of both outputs.
 pub record Grows (limit : ℕ) (a b : List ℕ) : Type 0 where
@@ -17,7 +17,7 @@ pub record Grows (limit : ℕ) (a b : List ℕ) : Type 0 where
 abbrev pub IsRefused : ℕ → List ℕ → Type 0
 IsRefused limit a = (why : Refusal) × (header limit (settled a) ≡ Refused why)
 
--- Nothing that comes behind a text matters.
+-- Nothing that comes after a text matters.
 pub record IsFinal (limit : ℕ) (a b : List ℕ) : Type 0 where
   pub settled : settled_output (a ++ b) limit ≡ settled_output a limit
   pub whole : output a limit ≡ settled_output a limit

@@ -6,13 +6,13 @@ pub mod Items
 pub mod Edits
 pub mod Output
 pub mod Laws
-pub mod Heads
+pub mod HeaderStates
 pub mod PlainTruth
 pub mod Queries
 pub mod Sessions
 pub mod Blocks
 pub mod Stages
-pub mod Courses
+pub mod JobStates
 pub mod Feeding
 pub mod Standing
 pub mod Kept

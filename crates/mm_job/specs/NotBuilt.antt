@@ -6,8 +6,8 @@ use Rattle.mm_formula.specs.Syntax.Syntax.{Not, Bin, Ex, All}
 use Rattle.mm_job.specs.Meaning.{Query}
 use Rattle.mm_tree.specs.NamedTree.{Tree}
 use Rattle.mm_tree.specs.NamedTree.{nodes as tree_nodes}
-use Rattle.mm_words.specs.declared.refusal.Refusal.{Refusal}
-use Rattle.mm_words.specs.declared.refusal.Refusal.TheVariants as refusal
+use Rattle.mm_job_text.specs.declared.refusal.Refusal.{Refusal}
+use Rattle.mm_job_text.specs.declared.refusal.Refusal.TheVariants as refusal
 
 -- A formula without a quantifier.
 abbrev pub is_plain : Syntax → Bool

@@ -7,35 +7,35 @@ use Rattle.mm_job.specs.Edits.{Reply, Changed, Compared, Denied, single, block}
 use Rattle.mm_job.specs.Header.{Session, header}
 use Rattle.mm_job.specs.Items.{Items, NoMore, Unended, Single, Block, items}
 use Rattle.mm_job.specs.Meaning.{answer_line}
-use Rattle.mm_job.specs.declared.said.Said.{Said}
-use Rattle.mm_job.specs.declared.said.Said.TheVariants.{Says, Refuses}
+use Rattle.mm_job.specs.declared.output_line.OutputLine.{OutputLine}
+use Rattle.mm_job.specs.declared.output_line.OutputLine.TheVariants.{Says, Refuses}
 use Rattle.mm_lines.specs.Lines.{is_over, lines, settled}
 use Rattle.mm_lines.specs.declared.line.Line.{Line}
-use Rattle.mm_words.specs.Readers.{Reading, Read, Refused, Short}
-use Rattle.mm_words.specs.Words.{words}
-use Rattle.mm_words.specs.declared.refusal.Refusal.TheVariants as refusal
+use Rattle.mm_job_text.specs.Readers.{Reading, Read, Refused, Short}
+use Rattle.mm_job_text.specs.Words.{words}
+use Rattle.mm_job_text.specs.declared.refusal.Refusal.TheVariants as refusal
 
-abbrev pub answered : Session → Said
+abbrev pub answered : Session → OutputLine
 answered s = Says (answer_line s.f s.query s.tree)
 
--- What stands behind the lines: more may come; nothing, since the text has ended; or more bytes than are used.
+-- What stands after the lines: more may come; nothing, since the text has ended; or more bytes than are used.
 pub data Ending : Type 0 where
   More Ended Over : Ending
 
 -- What is written at the end, in a header or a block.
-abbrev pub cut_short : Ending → List Said
+abbrev pub cut_short : Ending → List OutputLine
 cut_short More = []
 cut_short Ended = Refuses refusal.Unfinished ∷ []
 cut_short Over = Refuses refusal.TooLong ∷ []
 
 -- What is written at the end, between two items.
-abbrev pub at_rest : Ending → List Said
+abbrev pub at_rest : Ending → List OutputLine
 at_rest More = []
 at_rest Ended = []
 at_rest Over = Refuses refusal.TooLong ∷ []
 
 -- The line of an item, and the session after it.
-abbrev pub reply_line : Reply → Said
+abbrev pub reply_line : Reply → OutputLine
 reply_line (Changed new) = answered new
 reply_line (Compared same) = Says (if same then codes "same" else codes "differs")
 reply_line (Denied e) = Refuses e
@@ -46,38 +46,38 @@ after_reply s (Compared same) = s
 after_reply s (Denied e) = s
 
 -- The lines of some items, for a session.
-unfoldable pub told_items : Ending → Session → Items → List Said
-told_items e s NoMore = at_rest e
-told_items e s Unended = cut_short e
-told_items e s (Single r rest) = reply_line (single s r) ∷ told_items e (after_reply s (single s r)) rest
-told_items e s (Block r rs rest) = reply_line (block s r rs) ∷ told_items e (after_reply s (block s r rs)) rest
+unfoldable pub lines_of_items : Ending → Session → Items → List OutputLine
+lines_of_items e s NoMore = at_rest e
+lines_of_items e s Unended = cut_short e
+lines_of_items e s (Single r rest) = reply_line (single s r) ∷ lines_of_items e (after_reply s (single s r)) rest
+lines_of_items e s (Block r rs rest) = reply_line (block s r rs) ∷ lines_of_items e (after_reply s (block s r rs)) rest
 
-abbrev pub told_behind : Ending → Reading Session → List Said
-told_behind e (Read s rest) = answered s ∷ told_items e s (items rest)
-told_behind e (Refused why) = Refuses why ∷ []
-told_behind e Short = cut_short e
+abbrev pub lines_after_header : Ending → Reading Session → List OutputLine
+lines_after_header e (Read s rest) = answered s ∷ lines_of_items e s (items rest)
+lines_after_header e (Refused why) = Refuses why ∷ []
+lines_after_header e Short = cut_short e
 
 -- The lines that are written for some lines of a job.
-unfoldable pub told : ℕ → Ending → List Line → List Said
-told limit e rs = told_behind e (header limit rs)
+unfoldable pub written_lines : ℕ → Ending → List Line → List OutputLine
+written_lines limit e rs = lines_after_header e (header limit rs)
 
 abbrev pub ending : Ending → List ℕ → Ending
 ending e text = if is_over text then Over else e
 
 -- The lines of the output of a job, and those that are settled in a text that may go on.
-unfoldable pub output_lines : List ℕ → ℕ → List Said
-output_lines text limit = told limit (ending Ended text) (lines text)
+unfoldable pub output_lines : List ℕ → ℕ → List OutputLine
+output_lines text limit = written_lines limit (ending Ended text) (lines text)
 
-unfoldable pub settled_lines : List ℕ → ℕ → List Said
-settled_lines text limit = told limit (ending More text) (settled text)
+unfoldable pub settled_lines : List ℕ → ℕ → List OutputLine
+settled_lines text limit = written_lines limit (ending More text) (settled text)
 
 -- A line as it is written.
-abbrev pub printed : Said → List ℕ
+abbrev pub printed : OutputLine → List ℕ
 printed (Says text) = text ++ codes "\n"
 printed (Refuses why) = codes "refused " ++ words why ++ codes "\n"
 
-abbrev pub printed_all : List Said → List ℕ
-printed_all said = flat_map printed said
+abbrev pub printed_all : List OutputLine → List ℕ
+printed_all output_line = flat_map printed output_line
 
 -- The output of a job.
 abbrev pub output : List ℕ → ℕ → List ℕ
@@ -87,12 +87,12 @@ output text limit = printed_all (output_lines text limit)
 abbrev pub settled_output : List ℕ → ℕ → List ℕ
 settled_output text limit = printed_all (settled_lines text limit)
 
-abbrev pub is_refusal : Said → Bool
+abbrev pub is_refusal : OutputLine → Bool
 is_refusal (Says text) = false
 is_refusal (Refuses why) = true
 
 -- A refused first line refuses the job, and a later one is a refused edit.
-abbrev pub status_of : List Said → Status
+abbrev pub status_of : List OutputLine → Status
 status_of [] = status.Done
 status_of (first ∷ rest) =
     if is_refusal first then status.Refused

@@ -10,13 +10,13 @@ use Rattle.mm_lines.specs.LineBytes.{bytes_of}
 use Rattle.mm_lines.specs.Tokens.{rest_of}
 use Rattle.mm_lines.specs.declared.line.Line.{Line}
 use Rattle.mm_job.specs.Meaning.{Query, formula_of}
-use Rattle.mm_words.specs.Arguments.{args, begins}
-use Rattle.mm_words.specs.Demands.{◌>>=◌, ◌>>◌, demand, found, unless, within}
-use Rattle.mm_words.specs.declared.refusal.Stop.{Stop}
-use Rattle.mm_words.specs.declared.refusal.Stop.TheVariants as stop
-use Rattle.mm_words.specs.declared.refusal.Limit.TheVariants as limit
-use Rattle.mm_words.specs.declared.refusal.Refusal.{Refusal}
-use Rattle.mm_words.specs.declared.refusal.Refusal.TheVariants as refusal
+use Rattle.mm_job_text.specs.Arguments.{args, begins}
+use Rattle.mm_job_text.specs.Checks.{◌>>=◌, ◌>>◌, require, found, unless, within}
+use Rattle.mm_job_text.specs.declared.refusal.Stop.{Stop}
+use Rattle.mm_job_text.specs.declared.refusal.Stop.TheVariants as stop
+use Rattle.mm_job_text.specs.declared.refusal.Limit.TheVariants as limit
+use Rattle.mm_job_text.specs.declared.refusal.Refusal.{Refusal}
+use Rattle.mm_job_text.specs.declared.refusal.Refusal.TheVariants as refusal
 
 -- The refusal of a formula that is not scoped.
 abbrev pub scope_refusal : ℕ → Option ScopeFault → Option Refusal
@@ -42,7 +42,7 @@ scoped n sought F = unless (scope_refusal n (scope_fault F sought)) >> Ok (recor
 -- The query of this text, in the line with number n, that seeks this variable, if any.
 unfoldable pub query_of : ℕ → Option (List ℕ) → List ℕ → Result Query Refusal
 query_of n sought text = do
-  demand (nat_le 1 (length text)) (refusal.Syntax n)
+  require (nat_le 1 (length text)) (refusal.Syntax n)
   within (length text) most_formula limit.Formula n
   F ← found (formula_of text) refusal.Formula
   scoped n sought F

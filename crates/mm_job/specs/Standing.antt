@@ -1,25 +1,25 @@
 -- What the state of a job owes to the text that it has taken.
 use Rattle.std.specs.Prelude.{◌≡◌, ℕ, false, List, ◌++◌, length, None}
-use Rattle.mm_job.specs.Courses.{come_to}
-use Rattle.mm_job.specs.Output.{Ending, More, printed_all, told}
-use Rattle.mm_job.specs.Stages.{IsKeptAt, told_by}
-use Rattle.mm_job.specs.declared.course.Course.{Course}
+use Rattle.mm_job.specs.JobStates.{come_to}
+use Rattle.mm_job.specs.Output.{Ending, More, printed_all, written_lines}
+use Rattle.mm_job.specs.Stages.{IsKeptAt, lines_from_stage}
+use Rattle.mm_job.specs.declared.state.JobState.{JobState}
 use Rattle.mm_lines.specs.Lines.{lines_of, settled}
 use Rattle.mm_lines.specs.Streams.{Stream}
 use Rattle.mm_lines.specs.declared.line.Line.{Line}
 
 -- What is written for the settled lines of a text, with this ending.
 abbrev pub written_at : Ending → ℕ → List ℕ → List ℕ
-written_at e limit text = printed_all (told limit e (settled text))
+written_at e limit text = printed_all (written_lines limit e (settled text))
 
 -- All lines of a stream that goes on were handed out.
 pub record IsRead (s : Stream) : Type 0 where
   pub open_ended : s.ended ≡ false
   pub all : s.handed ≡ length (lines_of false s.bytes)
 
--- Whatever lines come behind those of the text, what is said of all is what was said so far, and then what the state tells; and the
+-- Whatever lines come after those of the text, what is said of all is what was said so far, and then what the state tells; and the
 -- state knows what was said so far comes to.
-pub record Stands (limit : ℕ) (text : List ℕ) (course : Course) : Type 0 where
-  pub kept : IsKeptAt course.stage
-  pub rest : (e : Ending) (rs : List Line) → told limit e (settled text ++ rs) ≡ told limit More (settled text) ++ told_by limit course.stage e rs
-  pub comes : course.status ≡ come_to None (told limit More (settled text))
+pub record Stands (limit : ℕ) (text : List ℕ) (state : JobState) : Type 0 where
+  pub kept : IsKeptAt state.stage
+  pub rest : (e : Ending) (rs : List Line) → written_lines limit e (settled text ++ rs) ≡ written_lines limit More (settled text) ++ lines_from_stage limit state.stage e rs
+  pub comes : state.status ≡ come_to None (written_lines limit More (settled text))

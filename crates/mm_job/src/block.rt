@@ -6,16 +6,16 @@ ghost use Rattle.mm_job.specs.Edits.{block, check_names, check_rows};
 ghost use Rattle.std.specs.List.{IsDistinct};
 ghost use Rattle.std.specs.Str.{bytes_eq};
 ghost use Rattle.mm_job.specs.Header.{Session};
-ghost use Rattle.mm_job.specs.Heads.{IsMatrix};
+ghost use Rattle.mm_job.specs.HeaderStates.{IsMatrix};
 ghost use Rattle.mm_job.specs.Items.{closes, opens};
 
 use crate::edit::read_replace;
 use mm_base::NoMemory;
 use mm_field::Field;
+use mm_job_text::{NameSet, Refusal, Stop, add_elements, add_row, args, begins, is_word, too_long};
 use mm_lines::Line;
 use mm_matrix::Matrix;
 use mm_present::Named;
-use mm_words::{NameSet, Refusal, Stop, add_elements, add_row, args, begins, is_word, too_long};
 use std::alloc::Global;
 
 /// A block that has begun and is not ended.
@@ -45,7 +45,7 @@ pub fn closes(line: &Line) -> bool
 
 impl Block {
     /// The block that a line opens.
-    #[tactic(auto, unfolding(crate::specs::Edits::block, crate::specs::Edits::replace_edit, crate::specs::Edits::checked, crate::specs::Edits::check_words), using(mm_tree::proofs::BuilderLaws::none_distinct))]
+    #[tactic(auto, unfolding(crate::specs::Edits::block, crate::specs::Edits::replace_edit, crate::specs::Edits::checked, crate::specs::Edits::check_words), using(mm_tree::proofs::BuilderLemmas::none_distinct))]
     pub fn open(alloc: Global, line: &Line) -> Block
         requires opens { opens line.now ≡ true }
         ensures begun { (s : Session) → IsBegun s.f result }
@@ -64,7 +64,7 @@ impl Block {
     }
 }
 
-/// Takes a line of a check that is not its `end`, behind these names and rows.
+/// Takes a line of a check that is not its `end`, after these names and rows.
 #[tactic(auto, unfolding(crate::specs::Edits::check_rows, crate::specs::Edits::check_end))]
 fn take_check_row(alloc: Global, f: Field, given: Named, line: &Line) -> Result<Block, NoMemory>
     requires inside { closes line.now ≡ false }
@@ -87,8 +87,8 @@ fn take_check_row(alloc: Global, f: Field, given: Named, line: &Line) -> Result<
     Ok(Block::Denied(Refusal::Syntax(line.number)))
 }
 
-/// Takes a line of a check that is not its `end`, behind these names.
-#[tactic(auto, unfolding(crate::specs::Edits::check_names), using(crate::proofs::KeptLaws::elements_kept))]
+/// Takes a line of a check that is not its `end`, after these names.
+#[tactic(auto, unfolding(crate::specs::Edits::check_names), using(crate::proofs::KeptLemmas::elements_kept))]
 fn take_check_name(alloc: Global, f: Field, names: NameSet, line: &Line) -> Result<Block, NoMemory>
     requires inside { closes line.now ≡ false }
     requires different { IsDistinct bytes_eq names }

@@ -5,8 +5,8 @@ ghost use Rattle.mm_job.specs.Edits.{Denied, replace_words, single, weight_words
 ghost use Rattle.mm_job.specs.Header.{Session};
 
 use mm_base::Name;
+use mm_job_text::{Refusal, args, begins, too_long, two};
 use mm_lines::{Line, read_i64, read_u32};
-use mm_words::{Refusal, args, begins, too_long, two};
 
 /// What a `weight` line says.
 #[derive(Clone, Copy, Debug)]

@@ -3,40 +3,40 @@ ghost use Rattle.std.specs.Prelude.{◌≡◌, ◌∷◌, ◌++◌, [], List, If
 ghost use Rattle.std.specs.List.{IsDistinct};
 ghost use Rattle.std.specs.Str.{bytes_eq};
 ghost use Rattle.mm_lines.specs.declared.line.Line.{Line};
-ghost use Rattle.mm_job.specs.Blocks.{AreBegun, IsBegun, block_from, told_from, written};
+ghost use Rattle.mm_job.specs.Blocks.{AreBegun, IsBegun, block_from, lines_from_block, written};
 ghost use Rattle.mm_job.specs.Items.{closes};
-ghost use Rattle.mm_job.specs.Heads.{IsMatrix};
+ghost use Rattle.mm_job.specs.HeaderStates.{IsMatrix};
 ghost use Rattle.mm_present.specs.Comparing.{compared};
 ghost use Rattle.mm_job.specs.Output.{Ending, reply_line};
 ghost use Rattle.mm_job.specs.Edits.{is_same};
 ghost use Rattle.mm_job.specs.Sessions.{session_of};
-ghost use Rattle.mm_job.specs.declared.said.Said.TheVariants.{Says};
+ghost use Rattle.mm_job.specs.declared.output_line.OutputLine.TheVariants.{Says};
 
 use crate::block::{Block, closes, opens};
 use crate::edit::single_refusal;
-use crate::said::Said;
+use crate::output_line::OutputLine;
 use crate::session::Session;
 use mm_base::{NoMemory, Text};
+use mm_job_text::NameSet;
 use mm_lines::Line;
 use mm_matrix::Matrix;
 use mm_present::{Named, Verdict, compare};
-use mm_words::NameSet;
 use std::alloc::Global;
 
 /// Words alone.
-pub fn says(alloc: Global, words: &[u8]) -> Result<Said, NoMemory>
-    ensures { IfOk result (λ said. said ≡ Says words.now) }
+pub fn says(alloc: Global, words: &[u8]) -> Result<OutputLine, NoMemory>
+    ensures { IfOk result (λ output_line. output_line ≡ Says words.now) }
 {
     let mut text = Text::new(alloc);
     text.append(alloc, words)?;
-    Ok(Said::Says(text))
+    Ok(OutputLine::Says(text))
 }
 
 /// Whether given rows agree with the present tree.
-fn compare_present(alloc: Global, session: &Session, given: &Named) -> Result<Said, NoMemory>
+fn compare_present(alloc: Global, session: &Session, given: &Named) -> Result<OutputLine, NoMemory>
     requires tree { session.now.tree.f ≡ session.now.field }
     requires given { IsMatrix session.now.field given.now }
-    ensures { IfOk result (λ said. said ≡ Says (if is_same (compared session.now.field (record { names = given.now.names; rows = given.now.rows.rows }) session.now.tree.tree) then codes "same" else codes "differs")) }
+    ensures { IfOk result (λ output_line. output_line ≡ Says (if is_same (compared session.now.field (record { names = given.now.names; rows = given.now.rows.rows }) session.now.tree.tree) then codes "same" else codes "differs")) }
 {
     match compare(alloc, given, &session.tree)? {
         Verdict::Same => says(alloc, b"same"),
@@ -45,10 +45,10 @@ fn compare_present(alloc: Global, session: &Session, given: &Named) -> Result<Sa
 }
 
 /// Whether a matrix with these names and no rows agrees with the present tree.
-fn compare_names(alloc: Global, session: &Session, names: &NameSet) -> Result<Said, NoMemory>
+fn compare_names(alloc: Global, session: &Session, names: &NameSet) -> Result<OutputLine, NoMemory>
     requires tree { session.now.tree.f ≡ session.now.field }
     requires different { IsDistinct bytes_eq names.now }
-    ensures { IfOk result (λ said. said ≡ Says (if is_same (compared session.now.field (record { names = names.now; rows = [] }) session.now.tree.tree) then codes "same" else codes "differs")) }
+    ensures { IfOk result (λ output_line. output_line ≡ Says (if is_same (compared session.now.field (record { names = names.now; rows = [] }) session.now.tree.tree) then codes "same" else codes "differs")) }
 {
     let rows = Matrix::new(alloc, session.field, names.len());
     let names = names.to_list(alloc)?;
@@ -56,14 +56,19 @@ fn compare_names(alloc: Global, session: &Session, names: &NameSet) -> Result<Sa
 }
 
 /// The reply to a block at its `end`.
-fn close(alloc: Global, session: &Session, block: Block, line: &Line) -> Result<Said, NoMemory>
+fn close(
+    alloc: Global,
+    session: &Session,
+    block: Block,
+    line: &Line,
+) -> Result<OutputLine, NoMemory>
     requires tree { session.now.tree.f ≡ session.now.field }
     requires closes { closes line.now ≡ true }
     requires begun { IsBegun session.now.field block }
-    ensures { IfOk result (λ said. said ≡ reply_line (block_from (session_of session.now) block (line.now ∷ []))) }
+    ensures { IfOk result (λ output_line. output_line ≡ reply_line (block_from (session_of session.now) block (line.now ∷ []))) }
 {
     match block {
-        Block::Denied(refusal) => Ok(Said::Refuses(refusal)),
+        Block::Denied(refusal) => Ok(OutputLine::Refuses(refusal)),
         Block::Names(names) => compare_names(alloc, session, &names),
         Block::Rows(given) => compare_present(alloc, session, &given),
     }
@@ -71,28 +76,28 @@ fn close(alloc: Global, session: &Session, block: Block, line: &Line) -> Result<
 
 /// What a line of the items says, and the block that has begun then, if any.
 #[derive(Drop)]
-pub struct Told {
+pub struct ItemStep {
     /// The line that is written.
-    pub said: Option<Said>,
+    pub output_line: Option<OutputLine>,
     /// The block.
     pub block: Option<Block>,
 }
 
 /// Takes a line between two items.
-fn take_between(alloc: Global, session: &Session, line: &Line) -> Told
+fn take_between(alloc: Global, session: &Session, line: &Line) -> ItemStep
     ensures begun { AreBegun session.now.field result.block }
     ensures step { (e : Ending) (rs : List Line) →
-        told_from e (session_of session.now) None (line.now ∷ rs)
-        ≡ written result.said ++ told_from e (session_of session.now) result.block rs }
+        lines_from_block e (session_of session.now) None (line.now ∷ rs)
+        ≡ written result.output_line ++ lines_from_block e (session_of session.now) result.block rs }
 {
     if opens(line) {
-        return Told {
-            said: None,
+        return ItemStep {
+            output_line: None,
             block: Some(Block::open(alloc, line)),
         };
     }
-    Told {
-        said: Some(Said::Refuses(single_refusal(line))),
+    ItemStep {
+        output_line: Some(OutputLine::Refuses(single_refusal(line))),
         block: None,
     }
 }
@@ -103,41 +108,41 @@ fn take_inside(
     session: &Session,
     block: Block,
     line: &Line,
-) -> Result<Told, NoMemory>
+) -> Result<ItemStep, NoMemory>
     requires tree { session.now.tree.f ≡ session.now.field }
     requires begun { IsBegun session.now.field block }
-    ensures begun { IfOk result (λ told. AreBegun session.now.field told.block) }
-    ensures step { IfOk result (λ told. (e : Ending) (rs : List Line) →
-        told_from e (session_of session.now) (Some block) (line.now ∷ rs)
-        ≡ written told.said ++ told_from e (session_of session.now) told.block rs) }
+    ensures begun { IfOk result (λ written_lines. AreBegun session.now.field written_lines.block) }
+    ensures step { IfOk result (λ written_lines. (e : Ending) (rs : List Line) →
+        lines_from_block e (session_of session.now) (Some block) (line.now ∷ rs)
+        ≡ written written_lines.output_line ++ lines_from_block e (session_of session.now) written_lines.block rs) }
 {
     if closes(line) {
-        let said = close(alloc, session, block, line)?;
-        return Ok(Told {
-            said: Some(said),
+        let output_line = close(alloc, session, block, line)?;
+        return Ok(ItemStep {
+            output_line: Some(output_line),
             block: None,
         });
     }
     let block = block.take(alloc, session.field, line)?;
-    Ok(Told {
-        said: None,
+    Ok(ItemStep {
+        output_line: None,
         block: Some(block),
     })
 }
 
-/// Takes a line of the items. What is written for all lines from this one on is what is written for it, and then for those behind it.
+/// Takes a line of the items. What is written for all lines from this one on is what is written for it, and then for those after it.
 pub fn take_item_line(
     alloc: Global,
     session: &Session,
     block: Option<Block>,
     line: &Line,
-) -> Result<Told, NoMemory>
+) -> Result<ItemStep, NoMemory>
     requires tree { session.now.tree.f ≡ session.now.field }
     requires begun { AreBegun session.now.field block }
-    ensures begun { IfOk result (λ told. AreBegun session.now.field told.block) }
-    ensures step { IfOk result (λ told. (e : Ending) (rs : List Line) →
-        told_from e (session_of session.now) block (line.now ∷ rs)
-        ≡ written told.said ++ told_from e (session_of session.now) told.block rs) }
+    ensures begun { IfOk result (λ written_lines. AreBegun session.now.field written_lines.block) }
+    ensures step { IfOk result (λ written_lines. (e : Ending) (rs : List Line) →
+        lines_from_block e (session_of session.now) block (line.now ∷ rs)
+        ≡ written written_lines.output_line ++ lines_from_block e (session_of session.now) written_lines.block rs) }
 {
     match block {
         None => Ok(take_between(alloc, session, line)),

@@ -1,7 +1,7 @@
 //! A job, whose text comes in pieces.
-use crate::course::{Course, is_refused, nothing_read};
 use crate::pieces::{take_last, take_piece, take_text_end};
 use crate::progress::{JobFault, Progress};
+use crate::state::{JobState, is_refused, nothing_read};
 use mm_base::{Sink, Status, Steps};
 use mm_lines::Framer;
 use std::alloc::Global;
@@ -20,14 +20,14 @@ pub struct Job {
     framer: Framer,
     /// How many bytes of the text were taken.
     taken: usize,
-    course: Course,
+    state: JobState,
     live: bool,
 }
 
 impl Model for Job {
-    ghost use Rattle.mm_job.specs.Jobs.{JobState};
+    ghost use Rattle.mm_job.specs.Jobs.{JobValue};
 
-    ghost Value = { JobState };
+    ghost Value = { JobValue };
 
     ghost use Rattle.mm_job.specs.Kept.{IsJob, state_of};
 
@@ -40,7 +40,7 @@ impl Job {
     ghost use Rattle.std.specs.Prelude.{◌≡◌, ◌≤◌, ◌+◌, ◌++◌, [], true, false, Ok, IfOk, OnOk, OnErr, length};
     ghost use Rattle.mm_lines.specs.Lines.{most_bytes, settled};
     ghost use Rattle.mm_job.specs.Jobs.{Grew, GrewByFront, HasJobCause, goes_on, progress, with_piece};
-    ghost use Rattle.mm_job.specs.Output.{Over, end_of, output, settled_output, status_of, told};
+    ghost use Rattle.mm_job.specs.Output.{Over, end_of, output, settled_output, status_of, written_lines};
     ghost use Rattle.mm_job.specs.Standing.{written_at};
     ghost use Rattle.mm_job.specs.declared.progress.Progress.TheVariants.{Ended, More};
 
@@ -54,7 +54,7 @@ impl Job {
             limit,
             framer: Framer::new(alloc),
             taken: 0,
-            course: nothing_read(),
+            state: nothing_read(),
             live: true,
         }
     }
@@ -77,13 +77,13 @@ impl Job {
         ensures cause { HasJobCause (K.faults out.old) (K.faults out.new) result }
     {
         self.live = false;
-        let course = mem::replace(&mut self.course, nothing_read());
-        let course = take_piece(alloc, self.limit, course, &mut self.framer, piece, out)?;
-        if is_refused(course.status) {
+        let state = mem::replace(&mut self.state, nothing_read());
+        let state = take_piece(alloc, self.limit, state, &mut self.framer, piece, out)?;
+        if is_refused(state.status) {
             return Ok(Progress::Ended(Status::Refused));
         }
         self.taken += piece.len();
-        self.course = course;
+        self.state = state;
         self.live = true;
         Ok(Progress::More)
     }
@@ -97,7 +97,7 @@ impl Job {
     ) -> Result<Progress, JobFault>
         requires live { self.old.live ≡ true }
         requires size { length self.old.text + length piece.now ≤ most_bytes }
-        ensures progress { IfOk result (λ p. p ≡ Ended (status_of (told self.old.limit Over (settled (self.old.text ++ piece.now))))) }
+        ensures progress { IfOk result (λ p. p ≡ Ended (status_of (written_lines self.old.limit Over (settled (self.old.text ++ piece.now))))) }
         ensures limit { self.new.limit ≡ self.old.limit }
         ensures live { self.new.live ≡ false }
         ensures wrote { OnOk result (Grew (K.held out.old) (K.held out.new) (settled_output self.old.text self.old.limit) (written_at Over self.old.limit (self.old.text ++ piece.now))) }
@@ -105,13 +105,13 @@ impl Job {
         ensures cause { HasJobCause (K.faults out.old) (K.faults out.new) result }
     {
         self.live = false;
-        let course = mem::replace(&mut self.course, nothing_read());
-        let status = take_last(alloc, self.limit, course, &mut self.framer, piece, out)?;
+        let state = mem::replace(&mut self.state, nothing_read());
+        let status = take_last(alloc, self.limit, state, &mut self.framer, piece, out)?;
         Ok(Progress::Ended(status))
     }
 
     /// The text goes on with this piece, and what it settles is written. The job ends where the header is refused, and where the
-    /// text has more bytes than are used: nothing that comes behind matters then. After an `Err` a front of what is settled was
+    /// text has more bytes than are used: nothing that comes after matters then. After an `Err` a front of what is settled was
     /// written: `Write` comes only where the sink counted a fault, and the job does not go on.
     pub fn feed<K: Sink, L: Ledger>(
         &mut self,
@@ -155,8 +155,8 @@ impl Job {
         ensures steps { steps.new ≡ steps.old }
     {
         self.live = false;
-        let course = mem::replace(&mut self.course, nothing_read());
-        take_text_end(alloc, self.limit, course, &mut self.framer, out)
+        let state = mem::replace(&mut self.state, nothing_read());
+        take_text_end(alloc, self.limit, state, &mut self.framer, out)
     }
 
     /// Whether the job goes on: no call of `feed` on it answered `Ended`, none answered an error, and it was not finished.

@@ -12,17 +12,17 @@ pub fn the_output_grows_with_the_text()
     ensures { (limit : ℕ) (a b : List ℕ) → Grows limit a b }
 {}
 
-/// Nothing is used behind a line that refuses the header.
+/// Nothing is used after a line that refuses the header.
 pub fn a_refused_header_ends_a_job()
     ensures { (limit : ℕ) (a b : List ℕ) → IsRefused limit a → IsFinal limit a b }
 {}
 
-/// Nothing is used behind the bytes that a text may have.
+/// Nothing is used after the bytes that a text may have.
 pub fn too_long_a_text_ends_a_job()
     ensures { (limit : ℕ) (a b : List ℕ) → is_over a ≡ true → IsFinal limit a b }
 {}
 
-/// Where a job has ended, nothing matters that comes behind its text, and its status is that of the text.
+/// Where a job has ended, nothing matters that comes after its text, and its status is that of the text.
 pub fn an_ended_job_is_final()
     ensures { (limit : ℕ) (a b : List ℕ) (s : Status) → progress a limit ≡ Ended s → IsFinal limit a b × (end_of a limit ≡ s) }
 {}

@@ -2,32 +2,32 @@
 #![tactic(auto)]
 
 mod block;
-mod course;
 mod edit;
 mod feeding;
-mod head;
+mod header;
 mod items;
 mod job;
 mod laws;
+mod output_line;
 mod pieces;
 mod progress;
 mod query;
-mod said;
 mod session;
 mod stage;
+mod state;
 mod tree_lines;
 mod truth;
 
 pub use block::Block;
-pub use head::{Given, Head, Step, take_head_line};
-pub use items::{Told, take_item_line};
+pub use header::{HeaderData, HeaderState, HeaderStep, take_head_line};
+pub use items::{ItemStep, take_item_line};
 pub use job::Job;
 pub use laws::{
     a_refused_header_ends_a_job, an_ended_job_is_final, the_output_grows_with_the_text,
     too_long_a_text_ends_a_job,
 };
+pub use output_line::OutputLine;
 pub use progress::{JobFault, Progress};
 pub use query::read_query;
-pub use said::Said;
 pub use session::{Session, answer, start};
-pub use stage::{Stage, Taken, take_line};
+pub use stage::{LineStep, Stage, take_line};

@@ -9,7 +9,7 @@ use mm_base::{NoMemory, Status};
 pub enum Progress {
     /// More of the text may come.
     More,
-    /// Nothing behind it matters: the header was refused, or the text has more bytes than are used.
+    /// Nothing after it matters: the header was refused, or the text has more bytes than are used.
     Ended(Status),
 }
 

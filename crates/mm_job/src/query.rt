@@ -4,18 +4,18 @@ ghost use Rattle.std.specs.List.{list_all};
 ghost use Rattle.mm_formula.specs.Scope.{outermost, scope_fault};
 ghost use Rattle.mm_formula.specs.Syntax.{is_well_sorted, syntax_of};
 ghost use Rattle.mm_formula.specs.Variables.{is_set};
-ghost use Rattle.mm_job.specs.Heads.{Reads};
+ghost use Rattle.mm_job.specs.HeaderStates.{Reads};
 ghost use Rattle.mm_job.specs.Meaning.{formula_of};
 ghost use Rattle.mm_job.specs.NotBuilt.{is_plain};
 ghost use Rattle.mm_job.specs.Queries.{query_value};
 ghost use Rattle.mm_job.specs.QueryLines.{StopsAs, least_query, query_line, query_of, scope_refusal, scoped, set_variable_of};
-ghost use Rattle.mm_words.specs.Demands.{found};
-ghost use Rattle.mm_words.specs.declared.refusal.Refusal.TheVariants as refusal;
+ghost use Rattle.mm_job_text.specs.Checks.{found};
+ghost use Rattle.mm_job_text.specs.declared.refusal.Refusal.TheVariants as refusal;
 
 use mm_formula::{Formula, ScopeFault, Scoped, Var};
 use mm_formula_text::{ReadFault, read};
+use mm_job_text::{Limit, Refusal, Stop, args, begins};
 use mm_lines::Line;
-use mm_words::{Limit, Refusal, Stop, args, begins};
 use std::alloc::Global;
 
 /// The most bytes of a formula.

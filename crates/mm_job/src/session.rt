@@ -1,10 +1,10 @@
 //! What a job answers about.
 ghost use Rattle.std.specs.Prelude.{◌≡◌, ◌≤◌, ◌∷◌, not, List, IfOk, true};
 ghost use Rattle.mm_lines.specs.declared.line.Line.{Line};
-ghost use Rattle.mm_job.specs.Heads.{Goes, IsGiven, Reads, given_of};
-ghost use Rattle.mm_job.specs.Header.{behind_parts, built, built_line, matched};
+ghost use Rattle.mm_job.specs.HeaderStates.{Goes, IsHeaderData, Reads, given_of};
+ghost use Rattle.mm_job.specs.Header.{after_parts, built, built_line, matched};
 ghost use Rattle.mm_job.specs.NotBuilt.{is_built, may_be_over, over_limit};
-ghost use Rattle.mm_words.specs.Demands.{demand};
+ghost use Rattle.mm_job_text.specs.Checks.{require};
 ghost use Rattle.mm_job.specs.Output.{answered};
 ghost use Rattle.mm_job.specs.PlainTruth.{plain_truth};
 ghost use Rattle.mm_formula.specs.Syntax.{nodes, syntax_of};
@@ -12,24 +12,24 @@ ghost use Rattle.mm_job.specs.Meaning.{everything};
 ghost use Rattle.mm_present.specs.Comparing.{compared};
 ghost use Rattle.mm_logic.specs.PresentMatrix.{is_independent_set};
 ghost use Rattle.mm_tree.specs.NamedTree.{shape};
-ghost use Rattle.mm_words.specs.Readers.{Read};
+ghost use Rattle.mm_job_text.specs.Readers.{Read};
 ghost use Rattle.mm_job.specs.Queries.{query_value};
 ghost use Rattle.mm_job.specs.Sessions.{session_of};
-ghost use Rattle.mm_job.specs.declared.said.Said.TheVariants.{Says};
+ghost use Rattle.mm_job.specs.declared.output_line.OutputLine.TheVariants.{Says};
 
-use crate::head::Given;
+use crate::header::HeaderData;
 use crate::items::says;
+use crate::output_line::OutputLine;
 use crate::query::{is_plain, read_query};
-use crate::said::Said;
 use crate::truth::{plain_truth, speaks_of_all};
 use mm_base::NoMemory;
 use mm_field::Field;
 use mm_formula::{Formula, Scoped};
+use mm_job_text::{Refusal, Stop, too_long};
 use mm_lines::Line;
 use mm_ops::OpTable;
 use mm_present::{Verdict, compare, is_independent};
 use mm_tree::Tree;
-use mm_words::{Refusal, Stop, too_long};
 use std::alloc::Global;
 
 /// What a job answers about, with its present tree.
@@ -66,10 +66,10 @@ fn truth(alloc: Global, formula: &Formula, tree: &Tree) -> Result<bool, NoMemory
 }
 
 /// The line of the answer for the present tree.
-pub fn answer(alloc: Global, session: &Session) -> Result<Said, NoMemory>
+pub fn answer(alloc: Global, session: &Session) -> Result<OutputLine, NoMemory>
     requires tree { session.now.tree.f ≡ session.now.field }
     requires built { is_built (query_value session.now.query) ≡ true }
-    ensures { IfOk result (λ said. said ≡ answered (session_of session.now)) }
+    ensures { IfOk result (λ output_line. output_line ≡ answered (session_of session.now)) }
 {
     if truth(alloc, session.query.formula(), &session.tree)? {
         says(alloc, b"true")
@@ -132,7 +132,7 @@ fn nodes(formula: &Formula) -> u64
 
 /// The tree is within the limit on sizes.
 fn within_limit(limit: u64, query: &Scoped, tree: &Tree) -> Result<(), Refusal>
-    ensures { result ≡ demand (not (may_be_over limit (query_value query.now) tree.now.tree)) over_limit }
+    ensures { result ≡ require (not (may_be_over limit (query_value query.now) tree.now.tree)) over_limit }
 {
     let most = (nodes(query.formula()) + 1) * u64::from(tree.nodes());
     if limit < most {
@@ -143,8 +143,8 @@ fn within_limit(limit: u64, query: &Scoped, tree: &Tree) -> Result<(), Refusal>
 }
 
 /// Whether the given rows and the tree agree.
-fn check(alloc: Global, given: &Given, tree: &Tree) -> Result<(), Stop>
-    requires given { IsGiven given.now }
+fn check(alloc: Global, given: &HeaderData, tree: &Tree) -> Result<(), Stop>
+    requires given { IsHeaderData given.now }
     requires tree { tree.now.f ≡ given.now.field }
     ensures { Reads (λ (u : Unit {0}). u) result (matched (compared given.now.field (record { names = given.now.matrix.names; rows = given.now.matrix.rows.rows }) (tree.now.tree))) }
 {
@@ -155,27 +155,27 @@ fn check(alloc: Global, given: &Given, tree: &Tree) -> Result<(), Stop>
     }
 }
 
-/// Takes the query line behind a header.
+/// Takes the query line after a header.
 #[tactic(auto, unfolding(crate::specs::Header::query_part))]
 pub fn start(
     alloc: Global,
     limit: u64,
-    given: Given,
+    given: HeaderData,
     tree: Tree,
     line: &Line,
 ) -> Result<Session, Stop>
-    requires given { IsGiven given }
+    requires given { IsHeaderData given }
     requires tree { tree.f ≡ given.field }
     ensures tree { IfOk result (λ s. s.tree.f ≡ s.field) }
     ensures built { IfOk result (λ s. is_built (query_value s.query) ≡ true) }
-    ensures goes { (rs : List Line) → Goes result (behind_parts limit (given_of given, tree.tree) (line.now ∷ rs)) (λ s. Read (session_of s) rs) }
+    ensures goes { (rs : List Line) → Goes result (after_parts limit (given_of given, tree.tree) (line.now ∷ rs)) (λ s. Read (session_of s) rs) }
 {
     let query = built_query(alloc, line)?;
     check(alloc, &given, &tree)?;
     if let Err(refusal) = within_limit(limit, &query, &tree) {
         return Err(Stop::Refused(refusal));
     }
-    let Given {
+    let HeaderData {
         format: _,
         field,
         matrix: _,

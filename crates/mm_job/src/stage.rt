@@ -3,27 +3,27 @@ ghost use Rattle.std.specs.Prelude.{◌≡◌, ◌∷◌, ◌++◌, List, IfOk};
 ghost use Rattle.mm_lines.specs.declared.line.Line.{Line};
 ghost use Rattle.mm_job.specs.Blocks.{written};
 ghost use Rattle.mm_job.specs.Output.{Ending};
-ghost use Rattle.mm_job.specs.Stages.{IsKeptAt, told_by};
+ghost use Rattle.mm_job.specs.Stages.{IsKeptAt, lines_from_stage};
 ghost use Rattle.mm_job.specs.declared.stage.Stage.TheVariants as stages;
 
 use crate::block::Block;
-use crate::head::{Given, Head, Step, take_head_line};
+use crate::header::{HeaderData, HeaderState, HeaderStep, take_head_line};
 use crate::items::take_item_line;
-use crate::said::Said;
+use crate::output_line::OutputLine;
 use crate::session::{Session, answer, start};
 use mm_base::NoMemory;
+use mm_job_text::Stop;
 use mm_lines::Line;
 use mm_tree::Tree;
-use mm_words::Stop;
 use std::alloc::Global;
 
 /// What was read of a job, by what may come next.
 #[derive(Drop)]
 pub enum Stage {
     /// The header up to its tree.
-    Head(Head),
+    HeaderState(HeaderState),
     /// The query.
-    Query(Given, Tree),
+    Query(HeaderData, Tree),
     /// An item, or a line of the block that has begun.
     Items(Session, Option<Block>),
     /// Nothing: the header was refused.
@@ -32,31 +32,36 @@ pub enum Stage {
 
 /// What a line of a job says, and what may come next.
 #[derive(Drop)]
-pub struct Taken {
+pub struct LineStep {
     /// The line that is written.
-    pub said: Option<Said>,
+    pub output_line: Option<OutputLine>,
     /// What may come next.
     pub stage: Stage,
 }
 
 /// Takes a line of a header.
-fn take_header(alloc: Global, limit: u64, head: Head, line: &Line) -> Result<Taken, NoMemory>
-    requires kept { IsKeptAt (stages.Head head) }
+fn take_header(
+    alloc: Global,
+    limit: u64,
+    head: HeaderState,
+    line: &Line,
+) -> Result<LineStep, NoMemory>
+    requires kept { IsKeptAt (stages.HeaderState head) }
     ensures kept { IfOk result (λ taken. IsKeptAt taken.stage) }
     ensures step { IfOk result (λ taken. (e : Ending) (rs : List Line) →
-        told_by limit (stages.Head head) e (line.now ∷ rs) ≡ written taken.said ++ told_by limit taken.stage e rs) }
+        lines_from_stage limit (stages.HeaderState head) e (line.now ∷ rs) ≡ written taken.output_line ++ lines_from_stage limit taken.stage e rs) }
 {
     match take_head_line(alloc, head, line) {
-        Ok(Step::More(head)) => Ok(Taken {
-            said: None,
-            stage: Stage::Head(head),
+        Ok(HeaderStep::More(head)) => Ok(LineStep {
+            output_line: None,
+            stage: Stage::HeaderState(head),
         }),
-        Ok(Step::Parts(given, tree)) => Ok(Taken {
-            said: None,
+        Ok(HeaderStep::Parts(given, tree)) => Ok(LineStep {
+            output_line: None,
             stage: Stage::Query(given, tree),
         }),
-        Err(Stop::Refused(refusal)) => Ok(Taken {
-            said: Some(Said::Refuses(refusal)),
+        Err(Stop::Refused(refusal)) => Ok(LineStep {
+            output_line: Some(OutputLine::Refuses(refusal)),
             stage: Stage::Refused,
         }),
         Err(Stop::NoMemory) => Err(NoMemory),
@@ -67,25 +72,25 @@ fn take_header(alloc: Global, limit: u64, head: Head, line: &Line) -> Result<Tak
 fn take_query(
     alloc: Global,
     limit: u64,
-    given: Given,
+    given: HeaderData,
     tree: Tree,
     line: &Line,
-) -> Result<Taken, NoMemory>
+) -> Result<LineStep, NoMemory>
     requires kept { IsKeptAt (stages.Query given tree) }
     ensures kept { IfOk result (λ taken. IsKeptAt taken.stage) }
     ensures step { IfOk result (λ taken. (e : Ending) (rs : List Line) →
-        told_by limit (stages.Query given tree) e (line.now ∷ rs) ≡ written taken.said ++ told_by limit taken.stage e rs) }
+        lines_from_stage limit (stages.Query given tree) e (line.now ∷ rs) ≡ written taken.output_line ++ lines_from_stage limit taken.stage e rs) }
 {
     match start(alloc, limit, given, tree, line) {
         Ok(session) => {
-            let said = answer(alloc, &session)?;
-            Ok(Taken {
-                said: Some(said),
+            let output_line = answer(alloc, &session)?;
+            Ok(LineStep {
+                output_line: Some(output_line),
                 stage: Stage::Items(session, None),
             })
         }
-        Err(Stop::Refused(refusal)) => Ok(Taken {
-            said: Some(Said::Refuses(refusal)),
+        Err(Stop::Refused(refusal)) => Ok(LineStep {
+            output_line: Some(OutputLine::Refuses(refusal)),
             stage: Stage::Refused,
         }),
         Err(Stop::NoMemory) => Err(NoMemory),
@@ -99,32 +104,32 @@ fn take_item(
     session: Session,
     block: Option<Block>,
     line: &Line,
-) -> Result<Taken, NoMemory>
+) -> Result<LineStep, NoMemory>
     requires kept { IsKeptAt (stages.Items session block) }
     ensures kept { IfOk result (λ taken. IsKeptAt taken.stage) }
     ensures step { IfOk result (λ taken. (e : Ending) (rs : List Line) →
-        told_by limit (stages.Items session block) e (line.now ∷ rs) ≡ written taken.said ++ told_by limit taken.stage e rs) }
+        lines_from_stage limit (stages.Items session block) e (line.now ∷ rs) ≡ written taken.output_line ++ lines_from_stage limit taken.stage e rs) }
 {
-    let told = take_item_line(alloc, &session, block, line)?;
-    Ok(Taken {
-        said: told.said,
-        stage: Stage::Items(session, told.block),
+    let written_lines = take_item_line(alloc, &session, block, line)?;
+    Ok(LineStep {
+        output_line: written_lines.output_line,
+        stage: Stage::Items(session, written_lines.block),
     })
 }
 
-/// Takes a line of a job. What is written for all lines from this one on is what is written for it, and then for those behind it.
-pub fn take_line(alloc: Global, limit: u64, stage: Stage, line: &Line) -> Result<Taken, NoMemory>
+/// Takes a line of a job. What is written for all lines from this one on is what is written for it, and then for those after it.
+pub fn take_line(alloc: Global, limit: u64, stage: Stage, line: &Line) -> Result<LineStep, NoMemory>
     requires kept { IsKeptAt stage }
     ensures kept { IfOk result (λ taken. IsKeptAt taken.stage) }
     ensures step { IfOk result (λ taken. (e : Ending) (rs : List Line) →
-        told_by limit stage e (line.now ∷ rs) ≡ written taken.said ++ told_by limit taken.stage e rs) }
+        lines_from_stage limit stage e (line.now ∷ rs) ≡ written taken.output_line ++ lines_from_stage limit taken.stage e rs) }
 {
     match stage {
-        Stage::Head(head) => take_header(alloc, limit, head, line),
+        Stage::HeaderState(head) => take_header(alloc, limit, head, line),
         Stage::Query(given, tree) => take_query(alloc, limit, given, tree, line),
         Stage::Items(session, block) => take_item(alloc, limit, session, block, line),
-        Stage::Refused => Ok(Taken {
-            said: None,
+        Stage::Refused => Ok(LineStep {
+            output_line: None,
             stage: Stage::Refused,
         }),
     }

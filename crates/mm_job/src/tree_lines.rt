@@ -1,18 +1,18 @@
 //! The lines of a tree, which build it up.
 ghost use Rattle.std.specs.Prelude.{◌≡◌, Ok, Err, IfOk, MatchResult};
 ghost use Rattle.mm_tree.specs.Building.{AreOver};
-ghost use Rattle.mm_words.specs.Becoming.{Becomes};
-ghost use Rattle.mm_words.specs.TreeLines.{elem_line, end_line, join_line, tree_part, void_line};
+ghost use Rattle.mm_job_text.specs.Becoming.{Becomes};
+ghost use Rattle.mm_job_text.specs.TreeLines.{elem_line, end_line, join_line, tree_part, void_line};
 ghost use Rattle.mm_job.specs.Building.{stop_of, stopped};
 
 use mm_field::Field;
+use mm_job_text::{
+    ElementLine, Limit, Refusal, Stop, VoidLine, begins, is_word, read_element, read_join,
+    read_void,
+};
 use mm_lines::Line;
 use mm_ops::OpTable;
 use mm_tree::{BuildFault, Builder, Tree};
-use mm_words::{
-    ElementWords, Limit, Refusal, Stop, VoidWords, begins, is_word, read_element, read_join,
-    read_void,
-};
 use std::alloc::Global;
 
 /// Why the line with this number is not taken.
@@ -41,28 +41,28 @@ fn stopped(number: u32, answer: Result<(), BuildFault>) -> Result<(), Stop>
 }
 
 /// Takes the line of a leaf with an element.
-#[tactic(auto, using(crate::proofs::BuildLaws::element_refused, crate::proofs::BuildLaws::element_light, crate::proofs::BuildLaws::element_taken))]
+#[tactic(auto, using(crate::proofs::BuildLemmas::element_refused, crate::proofs::BuildLemmas::element_light, crate::proofs::BuildLemmas::element_taken))]
 fn take_element(alloc: Global, f: Field, builder: &mut Builder, line: &Line) -> Result<(), Stop>
     requires field { builder.old.f ≡ f }
     ensures field { builder.new.f ≡ builder.old.f }
     ensures trees { Becomes result builder.new.trees (elem_line f builder.old.trees line.now) }
 {
-    let ElementWords { name, vec, weight } = read_element(f, line)?;
+    let ElementLine { name, vec, weight } = read_element(f, line)?;
     stopped(line.number, builder.elem(alloc, name, vec, weight))
 }
 
 /// Takes the line of a leaf without an element.
-#[tactic(auto, using(crate::proofs::BuildLaws::void_refused, crate::proofs::BuildLaws::void_kept, crate::proofs::BuildLaws::void_taken))]
+#[tactic(auto, using(crate::proofs::BuildLemmas::void_refused, crate::proofs::BuildLemmas::void_kept, crate::proofs::BuildLemmas::void_taken))]
 fn take_void(alloc: Global, builder: &mut Builder, line: &Line) -> Result<(), Stop>
     ensures field { builder.new.f ≡ builder.old.f }
     ensures trees { Becomes result builder.new.trees (void_line builder.old.trees line.now) }
 {
-    let VoidWords { name, t } = read_void(line)?;
+    let VoidLine { name, t } = read_void(line)?;
     stopped(line.number, builder.void(alloc, name, t))
 }
 
 /// Takes the line of a join.
-#[tactic(auto, using(crate::proofs::BuildLaws::join_refused, crate::proofs::BuildLaws::join_taken))]
+#[tactic(auto, using(crate::proofs::BuildLemmas::join_refused, crate::proofs::BuildLemmas::join_taken))]
 fn take_join(alloc: Global, ops: &OpTable, builder: &mut Builder, line: &Line) -> Result<(), Stop>
     requires ops { AreOver builder.old.f ops.now }
     ensures field { builder.new.f ≡ builder.old.f }
@@ -95,7 +95,7 @@ pub fn take_part(
 }
 
 /// Takes the `end` of a tree, and gives the one tree that is there.
-#[tactic(auto, unfolding(mm_words::specs::TreeLines::end_line))]
+#[tactic(auto, unfolding(mm_job_text::specs::TreeLines::end_line))]
 pub fn end_tree(builder: Builder, line: &Line) -> Result<Tree, Refusal>
     ensures field { IfOk result (λ t. t.f ≡ builder.f) }
     ensures tree { MatchResult result

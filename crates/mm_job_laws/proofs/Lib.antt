@@ -1,5 +1,5 @@
-pub mod AgreementLaws
-pub mod OperatorLaws
-pub mod TreeLaws
-pub mod SoundLaws
-pub mod RefusalLaws
+pub mod AgreementLemmas
+pub mod OperatorLemmas
+pub mod TreeLemmas
+pub mod SoundLemmas
+pub mod RefusalLemmas

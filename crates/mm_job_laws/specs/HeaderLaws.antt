@@ -8,16 +8,16 @@ use Rattle.mm_job.specs.Meaning.{Query}
 use Rattle.mm_job.specs.NotBuilt.{is_built}
 use Rattle.mm_job.specs.Output.{output_lines}
 use Rattle.mm_job.specs.QueryLines.{query_line}
-use Rattle.mm_job.specs.declared.said.Said.{Said}
-use Rattle.mm_job.specs.declared.said.Said.TheVariants.{Refuses}
+use Rattle.mm_job.specs.declared.output_line.OutputLine.{OutputLine}
+use Rattle.mm_job.specs.declared.output_line.OutputLine.TheVariants.{Refuses}
 use Rattle.mm_job_laws.specs.Agreement.{Agrees}
 use Rattle.mm_lines.specs.Lines.{lines}
 use Rattle.mm_lines.specs.declared.line.Line.{Line}
 use Rattle.mm_present.specs.Comparing.{Named}
 use Rattle.mm_tree.specs.ValidTree.{IsValidTree}
-use Rattle.mm_words.specs.Readers.{Reading, Read, Refused, Short, now, whole}
-use Rattle.mm_words.specs.declared.refusal.Refusal.{Refusal}
-use Rattle.mm_words.specs.declared.refusal.Refusal.TheVariants as refusal
+use Rattle.mm_job_text.specs.Readers.{Reading, Read, Refused, Short, now, whole}
+use Rattle.mm_job_text.specs.declared.refusal.Refusal.{Refusal}
+use Rattle.mm_job_text.specs.declared.refusal.Refusal.TheVariants as refusal
 
 -- The names of the given rows, and the rows.
 abbrev pub given_of : Parts → Named
@@ -51,7 +51,7 @@ abbrev pub session_of : ℕ → Parts → Query → Session
 session_of limit p query = record { f = p.0.f; ops = p.0.ops; query = query; limit = limit; tree = p.1 }
 
 -- What is read is a refusal of the rows exactly where they do not agree with the tree; and where they agree, it is the session with
--- this tree, if that is not over the limit, and the lines behind the query.
+-- this tree, if that is not over the limit, and the lines after the query.
 pub record IsDecidedByAgreement (limit : ℕ) (p : Parts) (query : Query) (rest : List Line) (read : Reading Session) : Type 0 where
   pub refused : IsRefusedForRows read ↔ (Agrees p.0.f (given_of p) p.1 → ⊥)
   pub agreeing : Agrees p.0.f (given_of p) p.1 → read ≡ now (started (session_of limit p query)) rest
@@ -63,9 +63,9 @@ RowsAreRefusedExactly =
     → whole query_line r ≡ Ok query → is_built query ≡ true → IsDecidedByAgreement limit p query rest (header limit rs)
 
 -- Nothing is written but one line, which refuses the rows.
-abbrev pub IsRowRefusalAlone : List Said → Type 0
+abbrev pub IsRowRefusalAlone : List OutputLine → Type 0
 IsRowRefusalAlone (Refuses why ∷ []) = IsRowRefusal why
-IsRowRefusalAlone said = ⊥
+IsRowRefusalAlone output_line = ⊥
 
 -- Where no line of a job up to its query is faulty, its output is one line that refuses the rows exactly where they do not agree
 -- with the tree.

@@ -3,7 +3,7 @@ use Rattle.std.proofs.Common.{◌≡◌, [], ◌∷◌, refl}
 use Rattle.mm_field.specs.declared.Field.TheVariants.{Two, Three}
 use Rattle.mm_field.specs.Digits.{plus, times, negative, inverse}
 use Rattle.mm_linear.specs.Decide.{new_place, echelon_of, is_in_span}
-use Rattle.mm_linear.specs.LeftRows.{reduced_basis}
+use Rattle.mm_linear.specs.ReducedEchelon.{reduced_basis}
 use Rattle.mm_linear.specs.Coordinates.{is_pivot, free_columns, completed, digit_below, coordinates}
 use Rattle.mm_linear.specs.Subspaces.{all_vectors, subspace, preimage}
 

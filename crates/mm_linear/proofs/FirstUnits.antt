@@ -9,13 +9,13 @@ use Rattle.mm_field.specs.declared.Field.{Field}
 use Rattle.mm_field.specs.Digits.{order}
 use Rattle.mm_field.specs.Vectors.{zeros, vector_sum, combination, IsVector, AreVectors, AreIndependent}
 use Rattle.mm_field.proofs.Tables.{plus_zero_digit, times_one_digit}
-use Rattle.mm_field.proofs.VectorLaws.{multiple-zeros, zeros-vector_sum, IsVector-zeros}
-use Rattle.mm_field.proofs.CombinationLaws.{combination-append, combination-zeros, zeros_twice, vector_sum-append, multiple-append, IsWithin-itself}
-use Rattle.mm_field.proofs.PartLaws.{zeros-append, append_parts, IsVector-append}
+use Rattle.mm_field.proofs.VectorLemmas.{multiple-zeros, zeros-vector_sum, IsVector-zeros}
+use Rattle.mm_field.proofs.CombinationLemmas.{combination-append, combination-zeros, zeros_twice, vector_sum-append, multiple-append, IsWithin-itself}
+use Rattle.mm_field.proofs.PartLemmas.{zeros-append, append_parts, IsVector-append}
 use Rattle.mm_linear.specs.Coordinates.{unit, is_pivot, free_columns, completed}
-use Rattle.mm_linear.specs.LeftRows.{Leads}
-use Rattle.mm_linear.proofs.BasisLaws.{IsVector-unit, take-unit}
-use Rattle.mm_linear.proofs.PivotLaws.{pivots_are_leads}
+use Rattle.mm_linear.specs.ReducedEchelon.{Leads}
+use Rattle.mm_linear.proofs.BasisLemmas.{IsVector-unit, take-unit}
+use Rattle.mm_linear.proofs.PivotLemmas.{pivots_are_leads}
 
 abbrev pub first_units : ℕ → ℕ → List (List ℕ)
 first_units r t = map (unit r) (range_with_len 0 t)

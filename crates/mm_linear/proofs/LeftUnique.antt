@@ -7,13 +7,13 @@ use Rattle.mm_field.specs.declared.Field.{Field}
 use Rattle.mm_field.specs.Digits.{plus, times, negative}
 use Rattle.mm_field.specs.Vectors.{zeros, vector_sum, multiple, AreVectors, InSpan, IsWithin, SameRowSpace, IsVector}
 use Rattle.mm_field.proofs.Tables.{times-zero}
-use Rattle.mm_field.proofs.VectorLaws.{zeros-vector_sum, one-multiple, sum_entry}
-use Rattle.mm_field.proofs.CombinationLaws.{first_row, other_rows, combination-none, InSpan-vector_sum, InSpan-multiple, IsWithin-itself}
-use Rattle.mm_linear.specs.LeftRows.{Leads, Clear, reduced_basis}
-use Rattle.mm_linear.proofs.BasisLaws.{ended, less_and_more}
-use Rattle.mm_linear.proofs.PivotLaws.{cut-ended, last-ended, not_zeros, take-shorter, late_rows, lead_of_combination, entry_of_cut, tail_when_zero}
-use Rattle.mm_linear.proofs.LeftRowsLaws.{reduced_basis_is}
-use Rattle.mm_linear.proofs.InsertLaws.{cleared_at, sum_of_zeros}
+use Rattle.mm_field.proofs.VectorLemmas.{zeros-vector_sum, one-multiple, sum_entry}
+use Rattle.mm_field.proofs.CombinationLemmas.{first_row, other_rows, combination-none, InSpan-vector_sum, InSpan-multiple, IsWithin-itself}
+use Rattle.mm_linear.specs.ReducedEchelon.{Leads, Clear, reduced_basis}
+use Rattle.mm_linear.proofs.BasisLemmas.{ended, minus_and_plus}
+use Rattle.mm_linear.proofs.PivotLemmas.{cut-ended, last-ended, not_zeros, take-shorter, late_rows, lead_of_combination, entry_of_cut, tail_when_zero}
+use Rattle.mm_linear.proofs.ReducedEchelonLemmas.{reduced_basis_is}
+use Rattle.mm_linear.proofs.InsertLemmas.{cleared_at, sum_of_zeros}
 
 pub zero_at_leads : (f : Field) (n from : ℕ) (rows : List (List ℕ)) (ks : List ℕ) → Leads n from rows ks → AreVectors f n rows →
     (w : List ℕ) → InSpan f n rows w → ((i d : ℕ) → i < length ks → get_or w (get_or ks i d) 0 ≡ 0) → w ≡ zeros n
@@ -119,7 +119,7 @@ left_unique f n a b (v ∷ vs) (w ∷ us) (x ∷ ks) (y ∷ ls) h c g d hr hs sa
     entry_z k (leads_above n (suc x) us ls g'.3 i e l).1
     ∙ sum_of_zeros f (get_or v k 0) _ v_zero (ap (times f (negative f 1)) w_zero ∙ times-zero f (negative f 1))) in
     let heads : v ≡ w =
-    sym (less_and_more f n 1 v w hv hw.len)
+    sym (minus_and_plus f n 1 v w hv hw.len)
     ∙ ap₂ (λ s t. vector_sum f s t) z_zero (one-multiple f w hw.digits)
     ∙ zeros-vector_sum f n w hw in
     ap₂ (λ s t. s ∷ t) heads tails

@@ -5,16 +5,16 @@ use Rattle.std.proofs.lemmas.Bool.{and_parts, and_from, or_cases, both_ways, not
 use Rattle.std.proofs.lemmas.List.Elements.{All-append, All-cons}
 use Rattle.mm_field.specs.declared.Field.{Field}
 use Rattle.mm_field.specs.Vectors.{IsVector, AreVectors, InSpan, IsWithin}
-use Rattle.mm_field.proofs.VectorLaws.{vector_sum_comm}
-use Rattle.mm_field.proofs.CombinationLaws.{first_row, other_rows, InSpan-within, InSpan-one_more, IsWithin-itself}
-use Rattle.mm_linear.proofs.TypeLaws.{InSum-from_append, append_left_in, append_right_in}
+use Rattle.mm_field.proofs.VectorLemmas.{vector_sum_comm}
+use Rattle.mm_field.proofs.CombinationLemmas.{first_row, other_rows, InSpan-within, InSpan-one_more, IsWithin-itself}
+use Rattle.mm_linear.proofs.TypeLemmas.{InSum-from_append, append_left_in, append_right_in}
 use Rattle.mm_linear.specs.Decide.{new_place, echelon_of, is_in_span, meets_in_zero}
-use Rattle.mm_linear.specs.Meets.{Meet}
-use Rattle.mm_linear.proofs.InsertLaws.{in_span_with_no_residue}
-use Rattle.mm_linear.proofs.SpaceLaws.{false_true}
-use Rattle.mm_linear.proofs.SubspaceLaws.{meet_more, meet_fails}
-use Rattle.mm_linear.proofs.SumLaws.{meet_none}
-use Rattle.mm_linear.proofs.DecideLaws.{IsRowsOf, echelon_of_is, new_place-none, new_is_outside}
+use Rattle.mm_linear.specs.Meets.{MeetTrivially}
+use Rattle.mm_linear.proofs.InsertLemmas.{in_span_with_no_residue}
+use Rattle.mm_linear.proofs.SpaceLemmas.{false_true}
+use Rattle.mm_linear.proofs.SubspaceLemmas.{meet_more, meet_fails}
+use Rattle.mm_linear.proofs.SumLemmas.{meet_none}
+use Rattle.mm_linear.proofs.DecideLemmas.{IsRowsOf, echelon_of_is, new_place-none, new_is_outside}
 
 pub is_in_span_decides : (f : Field) (n : ℕ) (vs : List (List ℕ)) (v : List ℕ) → AreVectors f n vs → IsVector f n v →
     IsTrue (is_in_span f n vs v) ↔ InSpan f n vs v
@@ -35,11 +35,11 @@ is_in_span_decides f n vs v h hv = go (echelon_of_is f n vs h) (new_place f n v 
     )
 
 meet_less : (f : Field) (n : ℕ) (A S : List (List ℕ)) (b : List ℕ) → IsVector f n b → AreVectors f n S →
-    Meet f n A (b ∷ S) → Meet f n A S
+    MeetTrivially n (InSpan f n A) (InSpan f n (b ∷ S)) → MeetTrivially n (InSpan f n A) (InSpan f n S)
 meet_less f n A S b hb hs meet z p q = meet z p (InSpan-one_more f n b S z hb hs q)
 
 meet_inside : (f : Field) (n : ℕ) (A S : List (List ℕ)) (b : List ℕ) → AreVectors f n S → InSpan f n S b →
-    Meet f n A S → Meet f n A (b ∷ S)
+    MeetTrivially n (InSpan f n A) (InSpan f n S) → MeetTrivially n (InSpan f n A) (InSpan f n (b ∷ S))
 meet_inside f n A S b hs inside meet z p q =
     meet z p (InSpan-within f n (b ∷ S) S z hs (All-cons (λ u. InSpan f n S u) b S inside (IsWithin-itself f n S hs)) q)
 
@@ -52,7 +52,7 @@ both_within f n A S ha hs = (
 
 one_step : (f : Field) (n : ℕ) (A S : List (List ℕ)) (b : List ℕ) → AreVectors f n A → AreVectors f n S → IsVector f n b →
     (x y : Bool) → (IsTrue x ↔ InSpan f n S b) → (IsTrue y ↔ InSpan f n (S ++ A) b) →
-    (m : Bool) → (IsTrue m ↔ Meet f n A S) → IsTrue (m && (x || not y)) ↔ Meet f n A (b ∷ S)
+    (m : Bool) → (IsTrue m ↔ MeetTrivially n (InSpan f n A) (InSpan f n S)) → IsTrue (m && (x || not y)) ↔ MeetTrivially n (InSpan f n A) (InSpan f n (b ∷ S))
 one_step f n A S b ha hs hb x y dx dy m dm = (
   (λ t.
       let parts = and_parts m (x || not y) t in
@@ -66,7 +66,7 @@ one_step f n A S b ha hs hb x y dx dy m dm = (
   (λ meet. and_from m (x || not y) (dm.1 (meet_less f n A S b hb hs meet)) (or_step x y dx dy meet)),
 )
   where
-    or_step : (x y : Bool) → (IsTrue x ↔ InSpan f n S b) → (IsTrue y ↔ InSpan f n (S ++ A) b) → Meet f n A (b ∷ S) →
+    or_step : (x y : Bool) → (IsTrue x ↔ InSpan f n S b) → (IsTrue y ↔ InSpan f n (S ++ A) b) → MeetTrivially n (InSpan f n A) (InSpan f n (b ∷ S)) →
         (x || not y) ≡ true
     or_step true y dx dy meet = refl
     or_step false false dx dy meet = refl
@@ -83,7 +83,7 @@ one_step f n A S b ha hs hb x y dx dy m dm = (
         (λ q. false_true _ (dx.1 q)) meet)
 
 pub meets_in_zero_decides : (f : Field) (n : ℕ) (A B : List (List ℕ)) → AreVectors f n A → AreVectors f n B →
-    IsTrue (meets_in_zero f n A B) ↔ Meet f n A B
+    IsTrue (meets_in_zero f n A B) ↔ MeetTrivially n (InSpan f n A) (InSpan f n B)
 unfolding meets_in_zero
 meets_in_zero_decides f n A [] ha hb = ((λ t. meet_none f n A), (λ m. refl))
 meets_in_zero_decides f n A (b ∷ S) ha hb =

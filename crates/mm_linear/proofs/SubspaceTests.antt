@@ -7,18 +7,18 @@ use Rattle.std.proofs.lemmas.List.FromFn.{length-range_with_len, get_or-range_wi
 use Rattle.std.proofs.lemmas.List.Elements.{All-nil, All-cons, All-append, All-map, All-filter, filter_passes, Contains-append_left, Contains-append_right}
 use Rattle.mm_field.specs.declared.Field.{Field}
 use Rattle.mm_field.specs.Digits.{order}
-use Rattle.mm_field.specs.Vectors.{zeros, vector_sum, multiple, IsVector, AreVectors, InSpan, through}
+use Rattle.mm_field.specs.Vectors.{zeros, vector_sum, multiple, IsVector, AreVectors, InSpan, times_matrix}
 use Rattle.mm_linear.specs.Joins.{Represents}
-use Rattle.mm_field.proofs.VectorLaws.{multiple-zeros, IsVector-zeros}
-use Rattle.mm_field.proofs.CombinationLaws.{zeros_twice, combination-vector_sum, combination-multiple, combination-zeros, IsVector-combination, vector_sum-append, multiple-append, InSpan-combination, InSpan-within, IsWithin-itself}
-use Rattle.mm_field.proofs.PartLaws.{combination-map, AreVectors-map, IsVector-append, zeros-append}
+use Rattle.mm_field.proofs.VectorLemmas.{multiple-zeros, IsVector-zeros}
+use Rattle.mm_field.proofs.CombinationLemmas.{zeros_twice, combination-vector_sum, combination-multiple, combination-zeros, IsVector-combination, vector_sum-append, multiple-append, InSpan-combination, InSpan-within, IsWithin-itself}
+use Rattle.mm_field.proofs.PartLemmas.{combination-map, AreVectors-map, IsVector-append, zeros-append}
 use Rattle.mm_linear.specs.Decide.{is_in_span}
-use Rattle.mm_linear.specs.LeftRows.{reduced_basis}
+use Rattle.mm_linear.specs.ReducedEchelon.{reduced_basis}
 use Rattle.mm_linear.specs.Subspaces.{all_vectors, subspace, boundary_space, preimage}
-use Rattle.mm_linear.proofs.SpaceLaws.{false_true}
-use Rattle.mm_linear.proofs.LeftRowsLaws.{reduced_basis_is, reduced_basis-same}
+use Rattle.mm_linear.proofs.SpaceLemmas.{false_true}
+use Rattle.mm_linear.proofs.ReducedEchelonLemmas.{reduced_basis_is, reduced_basis-same}
 use Rattle.mm_linear.proofs.MeetTest.{is_in_span_decides}
-use Rattle.mm_linear.proofs.BasisLaws.{IsVector-cons}
+use Rattle.mm_linear.proofs.BasisLemmas.{IsVector-cons}
 
 -- ---- all vectors
 
@@ -166,8 +166,8 @@ IsLinear-pad f t m = record {
   zero_kept = zeros-append t m;
 }
 
-pub IsLinear-through : (f : Field) (t r : ℕ) (g : List (List ℕ)) → AreVectors f r g → IsLinear f t r (through f r g)
-IsLinear-through f t r g h = record {
+pub IsLinear-times_matrix : (f : Field) (t r : ℕ) (g : List (List ℕ)) → AreVectors f r g → IsLinear f t r (times_matrix f r g)
+IsLinear-times_matrix f t r g h = record {
   vectors = λ u hu. IsVector-combination f r u g h;
   sums = λ u v hu hv. combination-vector_sum f r u v g (hu.len ∙ sym hv.len);
   multiples = λ c u hu. combination-multiple f r c u g;
@@ -180,9 +180,9 @@ unfolding boundary_space
 boundary_space_is f t m columns h = subspace_spans f t (t + m) (λ b. b ++ zeros m) columns (IsLinear-pad f t m) h
 
 pub preimage_is : (f : Field) (t r : ℕ) (g rows : List (List ℕ)) → AreVectors f r g → AreVectors f r rows →
-    SpansSource f t r (through f r g) rows (preimage f t r g rows)
+    SpansSource f t r (times_matrix f r g) rows (preimage f t r g rows)
 unfolding preimage
-preimage_is f t r g rows hg h = subspace_spans f t r (through f r g) rows (IsLinear-through f t r g hg) h
+preimage_is f t r g rows hg h = subspace_spans f t r (times_matrix f r g) rows (IsLinear-times_matrix f t r g hg) h
 
 -- the rows that are read off span the boundary space
 pub boundary_space_represents : (f : Field) (t m : ℕ) (columns : List (List ℕ)) → AreVectors f (t + m) columns →

@@ -5,21 +5,22 @@ use Rattle.std.proofs.lemmas.List.{length-replicate, take_at, drop_at}
 use Rattle.std.proofs.lemmas.List.Elements.{All-append}
 use Rattle.std.proofs.lemmas.Bool.{false_from_ne_true, false≢true}
 use Rattle.mm_field.specs.declared.Field.{Field}
-use Rattle.mm_field.specs.Vectors.{zeros, vector_sum, combination, IsVector, AreVectors, InSpan, AreIndependent, through}
-use Rattle.mm_linear.specs.Joins.{InSum, InImage1, InImage2, MeetOnlyInZero, Sides, AreSides, joined, width, Represents}
-use Rattle.mm_field.proofs.VectorLaws.{vector_sum-zeros, IsVector-zeros}
-use Rattle.mm_field.proofs.CombinationLaws.{IsVector-combination, combination-append, combination-zeros}
-use Rattle.mm_field.proofs.PartLaws.{AreVectors-map, IsVector-append}
-use Rattle.mm_linear.proofs.JoinLaws.{AreVectors-joined, joined_independent, left_independent, right_independent, images_meet_in_zero, boundary_in_sum, sum_in_boundary}
-use Rattle.mm_linear.proofs.TypeLaws.{images1, images2, AreVectors-images, join_is_independent, boundary_target, InSum-from_append, append_from_InSum, InImage-represented, represented-InImage}
+use Rattle.mm_field.specs.Vectors.{zeros, vector_sum, combination, IsVector, AreVectors, InSpan, AreIndependent, times_matrix}
+use Rattle.mm_linear.specs.Joins.{InSum, InImage1, InImage2, Sides, AreSides, joined, width, Represents}
+use Rattle.mm_linear.specs.Meets.{MeetTrivially}
+use Rattle.mm_field.proofs.VectorLemmas.{vector_sum-zeros, IsVector-zeros}
+use Rattle.mm_field.proofs.CombinationLemmas.{IsVector-combination, combination-append, combination-zeros}
+use Rattle.mm_field.proofs.PartLemmas.{AreVectors-map, IsVector-append}
+use Rattle.mm_linear.proofs.JoinLemmas.{AreVectors-joined, joined_independent, left_independent, right_independent, images_meet_in_zero, boundary_in_sum, sum_in_boundary}
+use Rattle.mm_linear.proofs.TypeLemmas.{images1, images2, AreVectors-images, join_is_independent, boundary_target, InSum-from_append, append_from_InSum, InImage-represented, represented-InImage}
 use Rattle.mm_linear.specs.Decide.{is_independent, is_in_span, meets_in_zero}
 use Rattle.mm_linear.specs.Coordinates.{unit, free_columns, completed, in_coordinates}
 use Rattle.mm_linear.specs.Subspaces.{boundary_space, preimage}
-use Rattle.mm_linear.proofs.DecideLaws.{is_independent_decides}
+use Rattle.mm_linear.proofs.DecideLemmas.{is_independent_decides}
 use Rattle.mm_linear.proofs.MeetTest.{is_in_span_decides, meets_in_zero_decides}
-use Rattle.mm_linear.proofs.BasisLaws.{completed_is_basis, AreVectors-free}
+use Rattle.mm_linear.proofs.BasisLemmas.{completed_is_basis, AreVectors-free}
 use Rattle.mm_linear.proofs.SubspaceTests.{boundary_space_represents, subspace_same, same_test}
-use Rattle.mm_linear.proofs.ChangeLaws.{out_of, IsVector-in_coordinates, independent_in_coordinates, span_in_coordinates}
+use Rattle.mm_linear.proofs.ChangeLemmas.{out_of, IsVector-in_coordinates, independent_in_coordinates, span_in_coordinates}
 
 -- z followed by zeros is in the span of the join's columns exactly where z is in the sum of the images
 pub sum_by_images : (j : Sides) → AreSides j → (k1 k2 : List (List ℕ)) →
@@ -73,7 +74,7 @@ pub third_independent : (j : Sides) → AreSides j → (t3 c : ℕ) (g3 : List (
     AreIndependent j.f j.r j.g1 → AreIndependent j.f j.r j.g2 →
     AreIndependent j.f (width j) (join_columns j g3)
     ↔ (AreIndependent j.f (j.t1 + j.m1) j.columns1 × AreIndependent j.f (j.t2 + j.m2) j.columns2
-    × MeetOnlyInZero j.r (InSpan j.f j.r (images1 j k1)) (InSpan j.f j.r (images2 j k2)))
+    × MeetTrivially j.r (InSpan j.f j.r (images1 j k1)) (InSpan j.f j.r (images2 j k2)))
 third_independent j h t3 c g3 third k1 k2 rep1 rep2 i1 i2 =
     let b = completed_is_basis j.f j.r g3 third.rows third.independent in
     let moved = independent_in_coordinates j.f j.r (j.m1 + j.m2) (completed j.f j.r g3) (joined j) b (AreVectors-joined j h) in
@@ -85,21 +86,21 @@ third_independent j h t3 c g3 third k1 k2 rep1 rep2 i1 i2 =
 -- b followed by zeros stands for b times the third boundary
 stands_for : (f : Field) (t3 c m1 m2 r : ℕ) (g us : List (List ℕ)) (b : List ℕ) → r ≡ t3 + c → length g ≡ t3 → AreVectors f r g →
     AreVectors f r us → length b ≡ t3 →
-    out_of f r (g ++ us) (b ++ zeros (c + (m1 + m2))) ≡ through f r g b ++ (zeros m1 ++ zeros m2)
+    out_of f r (g ++ us) (b ++ zeros (c + (m1 + m2))) ≡ times_matrix f r g b ++ (zeros m1 ++ zeros m2)
 stands_for f t3 c m1 m2 r g us b er lg hg hu lb =
     let lz : length (b ++ zeros c) ≡ r = length-append b (zeros c) ∙ (let e : length (zeros c) ≡ c = length-replicate c 0 in omega arith) in
     ap (out_of f r (g ++ us)) (sym (boundary_target c m1 m2 b))
     ∙ ap₂ (λ x y. x ++ y)
     (ap (λ x. combination f r x (g ++ us)) (take_at (b ++ zeros c) (zeros m1 ++ zeros m2) r lz)
     ∙ combination-append f r b (zeros c) g us (lb ∙ sym lg) hu
-    ∙ ap (λ x. vector_sum f (through f r g b) x) (combination-zeros f r c us hu)
-    ∙ vector_sum-zeros f r (through f r g b) (IsVector-combination f r b g hg))
+    ∙ ap (λ x. vector_sum f (times_matrix f r g b) x) (combination-zeros f r c us hu)
+    ∙ vector_sum-zeros f r (times_matrix f r g b) (IsVector-combination f r b g hg))
     (drop_at (b ++ zeros c) (zeros m1 ++ zeros m2) r lz)
 
 -- b followed by zeros is in the span of the columns in those coordinates where b times the third boundary is in that of the columns
 third_span : (j : Sides) → AreSides j → (t3 c : ℕ) (g3 : List (List ℕ)) → IsThird j t3 c g3 → (b : List ℕ) → IsVector j.f t3 b →
     InSpan j.f (width j) (join_columns j g3) (b ++ zeros (c + (j.m1 + j.m2)))
-    ↔ InSpan j.f (width j) (joined j) (through j.f j.r g3 b ++ (zeros j.m1 ++ zeros j.m2))
+    ↔ InSpan j.f (width j) (joined j) (times_matrix j.f j.r g3 b ++ (zeros j.m1 ++ zeros j.m2))
 third_span j h t3 c g3 third b hb =
     let f = j.f in
     let er : j.r ≡ t3 + c = third.size in
@@ -119,10 +120,10 @@ third_span j h t3 c g3 third b hb =
 pub third_boundary : (j : Sides) → AreSides j → (t3 c : ℕ) (g3 : List (List ℕ)) → IsThird j t3 c g3 → (k1 k2 : List (List ℕ)) →
     Represents j.f j.t1 j.m1 j.columns1 k1 → Represents j.f j.t2 j.m2 j.columns2 k2 → (b : List ℕ) → IsVector j.f t3 b →
     InSpan j.f (width j) (join_columns j g3) (b ++ zeros (c + (j.m1 + j.m2)))
-    ↔ InSpan j.f j.r (images1 j k1 ++ images2 j k2) (through j.f j.r g3 b)
+    ↔ InSpan j.f j.r (images1 j k1 ++ images2 j k2) (times_matrix j.f j.r g3 b)
 third_boundary j h t3 c g3 third k1 k2 rep1 rep2 b hb =
     let columns = third_span j h t3 c g3 third b hb in
-    let images = sum_by_images j h k1 k2 rep1 rep2 (through j.f j.r g3 b) (IsVector-combination j.f j.r b g3 third.rows).len in (
+    let images = sum_by_images j h k1 k2 rep1 rep2 (times_matrix j.f j.r g3 b) (IsVector-combination j.f j.r b g3 third.rows).len in (
       (λ p. images.0 (columns.0 p)),
       (λ p. columns.1 (images.1 p)),
     )
@@ -134,7 +135,7 @@ pub union_independent : (j : Sides) → AreSides j → (t3 c : ℕ) (g3 : List (
     AreIndependent j.f j.r j.g1 → AreIndependent j.f j.r j.g2 →
     AreIndependent j.f (width j) (join_columns j g3)
     ↔ (AreIndependent j.f (j.t1 + j.m1) j.columns1 × AreIndependent j.f (j.t2 + j.m2) j.columns2
-    × MeetOnlyInZero j.r (InImage1 j) (InImage2 j))
+    × MeetTrivially j.r (InImage1 j) (InImage2 j))
 union_independent j h t3 c g3 third i1 i2 =
     let b = completed_is_basis j.f j.r g3 third.rows third.independent in
     let moved = independent_in_coordinates j.f j.r (j.m1 + j.m2) (completed j.f j.r g3) (joined j) b (AreVectors-joined j h) in (
@@ -145,12 +146,12 @@ union_independent j h t3 c g3 third i1 i2 =
 -- b is in the boundary space of the union exactly where b times the third boundary is in the sum of the images
 pub union_boundary : (j : Sides) → AreSides j → (t3 c : ℕ) (g3 : List (List ℕ)) → IsThird j t3 c g3 → (b : List ℕ) → IsVector j.f t3 b →
     InSpan j.f (width j) (join_columns j g3) (b ++ zeros (c + (j.m1 + j.m2)))
-    ↔ InSum j.f (InImage1 j) (InImage2 j) (through j.f j.r g3 b)
+    ↔ InSum j.f (InImage1 j) (InImage2 j) (times_matrix j.f j.r g3 b)
 union_boundary j h t3 c g3 third b hb =
     let columns = third_span j h t3 c g3 third b hb in
     let lz = (IsVector-combination j.f j.r b g3 third.rows).len in (
-      (λ p. boundary_in_sum j h (through j.f j.r g3 b) lz (columns.0 p)),
-      (λ p. columns.1 (sum_in_boundary j h (through j.f j.r g3 b) p)),
+      (λ p. boundary_in_sum j h (times_matrix j.f j.r g3 b) lz (columns.0 p)),
+      (λ p. columns.1 (sum_in_boundary j h (times_matrix j.f j.r g3 b) p)),
     )
 
 -- ---- the tests and the spaces at a join
@@ -182,7 +183,7 @@ join_test j h t3 c g3 third i1 i2 =
     let k1 = boundary_space f j.t1 j.m1 j.columns1 in
     let k2 = boundary_space f j.t2 j.m2 j.columns2 in
     three_tests (AreIndependent f (width j) (join_columns j g3)) (AreIndependent f (j.t1 + j.m1) j.columns1)
-    (AreIndependent f (j.t2 + j.m2) j.columns2) (MeetOnlyInZero j.r (InSpan f j.r (own_images1 j)) (InSpan f j.r (own_images2 j)))
+    (AreIndependent f (j.t2 + j.m2) j.columns2) (MeetTrivially j.r (InSpan f j.r (own_images1 j)) (InSpan f j.r (own_images2 j)))
     (is_independent f (width j) (join_columns j g3)) (is_independent f (j.t1 + j.m1) j.columns1) (is_independent f (j.t2 + j.m2) j.columns2)
     (meets_in_zero f j.r (own_images1 j) (own_images2 j))
     (is_independent_decides f (width j) (join_columns j g3) (AreVectors-join j h t3 c g3 third))
@@ -208,12 +209,12 @@ join_space j h t3 c g3 third =
     let hW = All-append (λ v. IsVector f j.r v) (own_images1 j) (own_images2 j)
     (AreVectors-images f j.r k1 j.g1 j.t1 rep1.each h.rows1) (AreVectors-images f j.r k2 j.g2 j.t2 rep2.each h.rows2) in
     let hj = AreVectors-join j h t3 c g3 third in
-    subspace_same f t3 (λ b. is_in_span f (t3 + m) (join_columns j g3) (b ++ zeros m)) (λ b. is_in_span f j.r (own_images1 j ++ own_images2 j) (through f j.r g3 b))
+    subspace_same f t3 (λ b. is_in_span f (t3 + m) (join_columns j g3) (b ++ zeros m)) (λ b. is_in_span f j.r (own_images1 j ++ own_images2 j) (times_matrix f j.r g3 b))
     (λ b hb.
     ap (λ n. is_in_span f n (join_columns j g3) (b ++ zeros m)) w
-    ∙ same_test (InSpan f (width j) (join_columns j g3) (b ++ zeros m)) (InSpan f j.r (own_images1 j ++ own_images2 j) (through f j.r g3 b))
-    (is_in_span f (width j) (join_columns j g3) (b ++ zeros m)) (is_in_span f j.r (own_images1 j ++ own_images2 j) (through f j.r g3 b))
+    ∙ same_test (InSpan f (width j) (join_columns j g3) (b ++ zeros m)) (InSpan f j.r (own_images1 j ++ own_images2 j) (times_matrix f j.r g3 b))
+    (is_in_span f (width j) (join_columns j g3) (b ++ zeros m)) (is_in_span f j.r (own_images1 j ++ own_images2 j) (times_matrix f j.r g3 b))
     (is_in_span_decides f (width j) (join_columns j g3) (b ++ zeros m) hj
     (subst (λ n. IsVector f n (b ++ zeros m)) w (IsVector-append f t3 m b (zeros m) hb (IsVector-zeros f m))))
-    (is_in_span_decides f j.r (own_images1 j ++ own_images2 j) (through f j.r g3 b) hW (IsVector-combination f j.r b g3 third.rows))
+    (is_in_span_decides f j.r (own_images1 j ++ own_images2 j) (times_matrix f j.r g3 b) hW (IsVector-combination f j.r b g3 third.rows))
     (third_boundary j h t3 c g3 third k1 k2 rep1 rep2 b hb))

@@ -31,19 +31,19 @@ pub record IsBasis (f : Field) (n : ℕ) (rows : List (List ℕ)) : Type 0 where
   pub all : (x : List ℕ) → IsVector f n x → InSpan f n rows x
 
 -- x less c times v
-abbrev pub less : Field → List ℕ → ℕ → List ℕ → List ℕ
-less f x c v = vector_sum f x (multiple f (negative f c) v)
+abbrev pub minus_multiple : Field → List ℕ → ℕ → List ℕ → List ℕ
+minus_multiple f x c v = vector_sum f x (multiple f (negative f c) v)
 
 -- the last digit c below k for which x less c times v is in the span of the rows, or 0
 unfoldable pub digit_below : Field → ℕ → List (List ℕ) → List ℕ → List ℕ → ℕ → ℕ
 digit_below f n rows v x zero = 0
-digit_below f n rows v x (suc k) = cond (is_in_span f n rows (less f x k v)) k (digit_below f n rows v x k)
+digit_below f n rows v x (suc k) = cond (is_in_span f n rows (minus_multiple f x k v)) k (digit_below f n rows v x k)
 
 -- coefficients that combine the rows to x, where there are such
 unfoldable pub coordinates : Field → ℕ → List (List ℕ) → List ℕ → List ℕ
 coordinates f n [] x = []
 coordinates f n (v ∷ rows) x =
-    digit_below f n rows v x (order f) ∷ coordinates f n rows (less f x (digit_below f n rows v x (order f)) v)
+    digit_below f n rows v x (order f) ∷ coordinates f n rows (minus_multiple f x (digit_below f n rows v x (order f)) v)
 
 -- a column whose first r digits are exchanged for their coordinates
 abbrev pub in_coordinates : Field → ℕ → List (List ℕ) → List ℕ → List ℕ

@@ -1,15 +1,15 @@
 -- The columns of a join from those of its children, and what the join rule for independence speaks of.
 use Rattle.std.specs.Prelude.{ℕ, ◌+◌, ◌≡◌, List, ◌++◌, length, map, take, drop}
 use Rattle.mm_field.specs.declared.Field.{Field}
-use Rattle.mm_field.specs.Vectors.{zeros, vector_sum, through, IsVector, AreVectors, InSpan}
+use Rattle.mm_field.specs.Vectors.{zeros, vector_sum, times_matrix, IsVector, AreVectors, InSpan}
 
 -- A column of a node has its t boundary digits and then its m internal ones. Here it is as a column of the join, where the
 -- other child has m2 internal rows.
 abbrev pub left_column : Field → ℕ → ℕ → List (List ℕ) → ℕ → List ℕ → List ℕ
-left_column f t r g m2 v = through f r g (take t v) ++ (drop t v ++ zeros m2)
+left_column f t r g m2 v = times_matrix f r g (take t v) ++ (drop t v ++ zeros m2)
 
 abbrev pub right_column : Field → ℕ → ℕ → List (List ℕ) → ℕ → List ℕ → List ℕ
-right_column f t r g m1 v = through f r g (take t v) ++ (zeros m1 ++ drop t v)
+right_column f t r g m1 v = times_matrix f r g (take t v) ++ (zeros m1 ++ drop t v)
 
 -- b followed by m zeros is in the span of the columns
 abbrev pub InBoundary : Field → ℕ → ℕ → List (List ℕ) → List ℕ → Type 0
@@ -20,7 +20,7 @@ pub record InImage (f : Field) (t m r : ℕ) (columns g : List (List ℕ)) (z : 
   pub source : List ℕ
   pub vector : IsVector f t source
   pub inside : InBoundary f t m columns source
-  pub gives : through f r g source ≡ z
+  pub gives : times_matrix f r g source ≡ z
 
 -- z is a vector of the first space plus one of the second
 pub record InSum (f : Field) (first second : List ℕ → Type 0) (z : List ℕ) : Type 0 where
@@ -29,9 +29,6 @@ pub record InSum (f : Field) (first second : List ℕ → Type 0) (z : List ℕ)
   pub in_first : first one
   pub in_second : second other
   pub sum : vector_sum f one other ≡ z
-
-abbrev pub MeetOnlyInZero : ℕ → (List ℕ → Type 0) → (List ℕ → Type 0) → Type 0
-MeetOnlyInZero r first second = (z : List ℕ) → first z → second z → z ≡ zeros r
 
 -- Two sets of columns and the operator that joins them: the left ones have t1 boundary and m1 internal digits, the right
 -- ones t2 and m2, and g1 and g2 have rows of r digits.

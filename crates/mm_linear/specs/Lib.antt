@@ -4,6 +4,6 @@ pub mod Decide
 pub mod Meets
 pub mod Padded
 pub mod Coordinates
-pub mod LeftRows
+pub mod ReducedEchelon
 pub mod Subspaces
 pub mod Joins

@@ -1,8 +1,7 @@
--- Spans that meet in zero alone.
+-- Sets of vectors that meet in zero alone.
 use Rattle.std.specs.Prelude.{ℕ, ◌≡◌, List}
-use Rattle.mm_field.specs.declared.Field.{Field}
-use Rattle.mm_field.specs.Vectors.{zeros, InSpan}
+use Rattle.mm_field.specs.Vectors.{zeros}
 
--- the zero vector alone is in both spans
-abbrev pub Meet : Field → ℕ → List (List ℕ) → List (List ℕ) → Type 0
-Meet f n rows sows = (z : List ℕ) → InSpan f n rows z → InSpan f n sows z → z ≡ zeros n
+-- the zero vector alone is in both
+abbrev pub MeetTrivially : ℕ → (List ℕ → Type 0) → (List ℕ → Type 0) → Type 0
+MeetTrivially n first second = (z : List ℕ) → first z → second z → z ≡ zeros n

@@ -3,9 +3,9 @@ use Rattle.std.specs.Prelude.{ℕ, zero, suc, ◌+◌, Bool, List, [], ◌∷◌
 use Rattle.std.specs.List.{range_with_len}
 use Rattle.mm_field.specs.declared.Field.{Field}
 use Rattle.mm_field.specs.Digits.{order}
-use Rattle.mm_field.specs.Vectors.{zeros, through}
+use Rattle.mm_field.specs.Vectors.{zeros, times_matrix}
 use Rattle.mm_linear.specs.Decide.{is_in_span}
-use Rattle.mm_linear.specs.LeftRows.{reduced_basis}
+use Rattle.mm_linear.specs.ReducedEchelon.{reduced_basis}
 
 -- all vectors of n digits
 unfoldable pub all_vectors : Field → ℕ → List (List ℕ)
@@ -22,4 +22,4 @@ boundary_space f t m columns = subspace f t (λ b. is_in_span f (t + m) columns 
 
 -- all b of t digits such that b times g is in the span of the rows
 unfoldable pub preimage : Field → ℕ → ℕ → List (List ℕ) → List (List ℕ) → List (List ℕ)
-preimage f t r g rows = subspace f t (λ b. is_in_span f r rows (through f r g b))
+preimage f t r g rows = subspace f t (λ b. is_in_span f r rows (times_matrix f r g b))

@@ -15,7 +15,7 @@ abbrev pub Reads : Bool → List ℕ → ℕ → Place → Type 0
 Reads ended bytes handed p = (end : Bool) (more : List ℕ) → MayEnd ended end more
     → drop handed (lines_of end (bytes ++ more)) ≡ lines_from end p (bytes ++ more)
 
--- A framer holds no more than is used of a text, and stands behind the lines that it handed out.
+-- A framer holds no more than is used of a text, and stands after the lines that it handed out.
 pub record IsFramed (f : Inside) : Type 0 where
   pub size : length f.bytes.items ≤ most_bytes
   pub place : IsPlace f.bytes.items f.place

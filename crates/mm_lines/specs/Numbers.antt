@@ -21,7 +21,7 @@ abbrev pub signed : (ℕ → ℤ) → Option ℕ → Option ℤ
 signed f None = None
 signed f (Some n) = Some (f n)
 
--- A weight is 1 to 18 digits, behind a `-` or not.
+-- A weight is 1 to 18 digits, after a `-` or not.
 abbrev pub i64_of : List ℕ → Option ℤ
 i64_of [] = None
 i64_of (b ∷ bs) = if b == 45 then signed (λ n. neg_ℤ (pos n)) (number_of 18 bs) else signed pos (number_of 18 (b ∷ bs))

@@ -18,15 +18,15 @@ pub record IsPlace (bytes : List ℕ) (p : Place) : Type 0 where
   pub clean : NoNewline bytes p.start p.searched
   pub number : p.number ≤ p.start + 1
 
--- The lines behind the first of these pieces
-abbrev pub behind_first : Bool → ℕ → List (List ℕ) → List Line
-behind_first ended number [] = []
-behind_first ended number (piece ∷ more) = numbered (number + 1) (closed ended more)
+-- The lines after the first of these pieces
+abbrev pub after_first : Bool → ℕ → List (List ℕ) → List Line
+after_first ended number [] = []
+after_first ended number (piece ∷ more) = numbered (number + 1) (closed ended more)
 
 -- The lines from a place on. The one there is passed where it was handed out already.
 abbrev pub lines_from : Bool → Place → List ℕ → List Line
 lines_from ended p bytes = if p.passing
-    then behind_first ended p.number (slice_split is_newline (drop p.start bytes))
+    then after_first ended p.number (slice_split is_newline (drop p.start bytes))
     else numbered p.number (closed ended (slice_split is_newline (drop p.start bytes)))
 
 -- A stream that has ended doesn't go on.

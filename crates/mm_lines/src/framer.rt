@@ -67,7 +67,7 @@ impl Framer {
         Ok(())
     }
 
-    /// The stream ends here. Its end closes the last line, if bytes stand behind the last newline.
+    /// The stream ends here. Its end closes the last line, if bytes stand after the last newline.
     pub fn finish(&mut self)
         requires goes_on { self.old.ended ≡ false }
         ensures { self.new ≡ record self.old { ended = true } }

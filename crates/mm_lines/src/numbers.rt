@@ -52,7 +52,7 @@ pub fn read_u32(bytes: &[u8]) -> Option<u32>
     }
 }
 
-/// The number that 1 to 18 digits spell, behind a `-` or not. None exactly for other bytes.
+/// The number that 1 to 18 digits spell, after a `-` or not. None exactly for other bytes.
 pub fn read_i64(bytes: &[u8]) -> Option<i64>
     ensures { result ≡ i64_of bytes.now }
 {

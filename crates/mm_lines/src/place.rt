@@ -108,7 +108,7 @@ impl<'a> Piece<'a> {
     }
 }
 
-/// Cuts off the last bytes, where no newline stands behind the place: a line that is too long
+/// Cuts off the last bytes, where no newline stands after the place: a line that is too long
 /// already, or the last line of a stream that has ended.
 fn cut_open<'a>(bytes: &'a [u8], ended: bool, place: &mut Place) -> Option<Piece<'a>>
     requires size { length bytes.now ≤ most_bytes }

@@ -92,7 +92,7 @@ impl<'a> Tokens<'a> {
     }
 
     /// Takes the next token. None exactly where no token is left.
-    #[tactic(auto, using(crate::proofs::TokenLaws::tokens_nil, crate::proofs::TokenLaws::token_first, crate::proofs::TokenLaws::token_last))]
+    #[tactic(auto, using(crate::proofs::TokenLemmas::tokens_nil, crate::proofs::TokenLemmas::token_first, crate::proofs::TokenLemmas::token_last))]
     pub fn next(&mut self) -> Option<&'a [u8]>
         ensures { MatchOption result
             ((self.old ≡ []) × (self.new ≡ []))

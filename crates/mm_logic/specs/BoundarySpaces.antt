@@ -2,7 +2,7 @@
 use Rattle.std.specs.Prelude.{ℕ, ◌+◌, Bool, true, false, ◌==◌, if◌then◌else◌, List, [], ◌∷◌, ◌++◌, map, length}
 use Rattle.std.specs.List.{list_all}
 use Rattle.mm_field.specs.declared.Field.{Field}
-use Rattle.mm_field.specs.Vectors.{through}
+use Rattle.mm_field.specs.Vectors.{times_matrix}
 use Rattle.mm_linear.specs.Joins.{InBoundary, InImage}
 use Rattle.mm_linear.specs.Decide.{is_independent, is_in_span, meets_in_zero}
 use Rattle.mm_linear.specs.Subspaces.{subspace, boundary_space, preimage}
@@ -51,7 +51,7 @@ ind_void f t = Span t (span_of f t [])
 
 -- All b times g, for the rows b.
 abbrev pub images : Field → ℕ → List (List ℕ) → List (List ℕ) → List (List ℕ)
-images f r g rows = map (through f r g) rows
+images f r g rows = map (times_matrix f r g) rows
 
 -- The join rule: Dead where a side is dead or where the images of both boundary spaces in the space of the join have a common
 -- vector other than zero; else all b such that b times G3 is in the sum of the images.

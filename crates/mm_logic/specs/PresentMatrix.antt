@@ -2,7 +2,7 @@
 use Rattle.std.specs.Prelude.{◌≡◌, ℕ, ◌+◌, Bool, List, [], ◌∷◌, ◌++◌, map, slice_index}
 use Rattle.std.specs.List.{items_where_true}
 use Rattle.mm_field.specs.declared.Field.{Field}
-use Rattle.mm_field.specs.Vectors.{vector_sum, combination, through, IsVector, AreIndependent}
+use Rattle.mm_field.specs.Vectors.{vector_sum, combination, times_matrix, IsVector, AreIndependent}
 use Rattle.mm_linear.specs.Joins.{left_column, right_column}
 use Rattle.mm_linear.specs.Decide.{is_independent}
 use Rattle.mm_linear.specs.Coordinates.{unit, free_columns, completed, coordinates, in_coordinates}
@@ -22,7 +22,7 @@ pub record IsColumn (f : Field) (op : Op) (x b y : List ℕ) : Type 0 where
   pub boundary_digits : IsVector f op.t3 b
   pub internal_digits : IsVector f op.c y
   pub sum :
-      x ≡ vector_sum f (through f (row_length op) op.g3 b)
+      x ≡ vector_sum f (times_matrix f (row_length op) op.g3 b)
       (combination f (row_length op) y (map (unit (row_length op)) (free_columns f (row_length op) op.g3)))
 
 -- b and then y, by elimination: the coordinates of x in the basis of the rows of G3 and the unit vectors at its free columns

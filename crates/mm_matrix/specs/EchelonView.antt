@@ -1,7 +1,7 @@
 -- The reduced echelon rows of a row space, and the places of their first digits other than 0.
 use Rattle.std.specs.Prelude.{ℕ, List, map}
 use Rattle.mm_matrix.specs.MatrixValue.{MatrixValue}
-use Rattle.mm_matrix.specs.Rests.{AreReduced}
+use Rattle.mm_matrix.specs.Residues.{AreReduced}
 use Rattle.mm_matrix.specs.declared.echelon.Echelon.TheInside.{Inside}
 
 abbrev pub rows_of : Inside → List (List ℕ)

@@ -1,5 +1,5 @@
 pub mod MatrixValue
-pub mod Rests
+pub mod Residues
 pub mod EchelonView
 pub mod Outside
 pub mod Orthogonal

@@ -3,7 +3,7 @@ use Rattle.std.specs.Prelude.{◌≡◌, ◌↔◌, ◌+◌, ℕ, List, [], ◌�
 use Rattle.mm_field.specs.declared.Field.{Field}
 use Rattle.mm_field.specs.Digits.{plus, times}
 use Rattle.mm_field.specs.Vectors.{IsVector, InSpan, AreIndependent}
-use Rattle.mm_linear.specs.LeftRows.{reduced_basis}
+use Rattle.mm_linear.specs.ReducedEchelon.{reduced_basis}
 use Rattle.mm_matrix.specs.MatrixValue.{MatrixValue}
 
 -- The sum of the products of two vectors, entry by entry.

@@ -23,13 +23,13 @@ abbrev pub left : Field → ℕ → List (List ℕ) → List ℕ → ℕ → ℕ
 left f n rows leads j i = combination f n (drop i (shares f rows (unit n j))) (drop i (units n leads))
 
 -- The projection of the unit vector at column j.
-abbrev pub null_row : Field → ℕ → List (List ℕ) → List ℕ → ℕ → List ℕ
-null_row f n rows leads j = projected f n rows leads (unit n j)
+abbrev pub kernel_vector : Field → ℕ → List (List ℕ) → List ℕ → ℕ → List ℕ
+kernel_vector f n rows leads j = projected f n rows leads (unit n j)
 
 -- The same where column j is no lead, and else nothing.
-abbrev pub null_row_at : Field → ℕ → List (List ℕ) → List ℕ → ℕ → List (List ℕ)
-null_row_at f n rows leads j = cond (is_pivot f rows j) [] (null_row f n rows leads j ∷ [])
+abbrev pub kernel_vector_at : Field → ℕ → List (List ℕ) → List ℕ → ℕ → List (List ℕ)
+kernel_vector_at f n rows leads j = cond (is_pivot f rows j) [] (kernel_vector f n rows leads j ∷ [])
 
 -- Those at the columns that are no leads.
-abbrev pub null_rows : Field → ℕ → List (List ℕ) → List ℕ → List (List ℕ)
-null_rows f n rows leads = map (null_row f n rows leads) (free_columns f n rows)
+abbrev pub kernel_vectors : Field → ℕ → List (List ℕ) → List ℕ → List (List ℕ)
+kernel_vectors f n rows leads = map (kernel_vector f n rows leads) (free_columns f n rows)

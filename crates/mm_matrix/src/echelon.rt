@@ -2,14 +2,14 @@
 
 ghost use Rattle.std.specs.Prelude.{◌≡◌, ◌<◌, ◌∷◌, ℕ, length, slice_index_or, IfOk, MatchOption, IsTrue, ◌↔◌};
 ghost use Rattle.mm_field.specs.Vectors.{IsVector, InSpan, IsWithin};
-ghost use Rattle.mm_linear.specs.LeftRows.{reduced_basis};
+ghost use Rattle.mm_linear.specs.ReducedEchelon.{reduced_basis};
 ghost use Rattle.mm_matrix.specs.MatrixValue.{HasRowSpace};
 ghost use Rattle.mm_matrix.specs.Outside.{IsFirstOutside};
 ghost use Rattle.mm_matrix.specs.Orthogonal.{IsNullOf};
 
 use crate::elimination::{insert, new_row};
 use crate::matrix::Matrix;
-use crate::orthogonality::add_null_row;
+use crate::orthogonality::add_kernel_vector;
 use mm_base::NoMemory;
 use mm_field::Field;
 use std::alloc::Global;
@@ -116,12 +116,12 @@ impl Echelon {
     }
 
     /// The projections of the unit vectors at the columns that are no leads.
-    pub(crate) fn null_rows(&self, alloc: Global) -> Result<Matrix, NoMemory>
+    pub(crate) fn kernel_vectors(&self, alloc: Global) -> Result<Matrix, NoMemory>
         ensures { IfOk result (λ null. IsNullOf self.now null) }
     {
         let mut null = Matrix::new(alloc, self.field, self.cols);
         for j in 0..self.cols {
-            add_null_row(alloc, self.field, &self.rows, &self.leads, j, &mut null)?;
+            add_kernel_vector(alloc, self.field, &self.rows, &self.leads, j, &mut null)?;
         }
         Ok(null)
     }

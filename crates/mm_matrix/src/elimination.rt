@@ -5,8 +5,8 @@ ghost use Rattle.std.specs.Prelude.{◌≡◌, ◌≢◌, ◌<◌, ◌≤◌, �
 ghost use Rattle.mm_field.specs.Digits.{inverse};
 ghost use Rattle.mm_field.specs.Vectors.{IsVector, AreVectors, InSpan, SameRowSpace, multiple};
 ghost use Rattle.mm_linear.specs.Eliminate.{cleared};
-ghost use Rattle.mm_linear.specs.LeftRows.{Leads};
-ghost use Rattle.mm_matrix.specs.Rests.{AreReduced, IsRest, IsNew, AddsAs, IsPlaceOf};
+ghost use Rattle.mm_linear.specs.ReducedEchelon.{Leads};
+ghost use Rattle.mm_matrix.specs.Residues.{AreReduced, IsResidue, IsNew, AddsAs, IsPlaceOf};
 
 use mm_base::NoMemory;
 use mm_field::{Field, lanes};
@@ -17,7 +17,7 @@ fn reduce(f: Field, rows: &Vec<Vec<u8>>, leads: &Vec<usize>, v: &mut [u8])
     requires vector { IsVector f (length v.old) v.old }
     requires each { AreVectors f (length v.old) (map (λ r. r.items) rows.now.items) }
     requires leads { Leads (length v.old) 0 (map (λ r. r.items) rows.now.items) leads.now.items }
-    ensures { IsRest f (length v.old) (map (λ r. r.items) rows.now.items) leads.now.items v.old v.new }
+    ensures { IsResidue f (length v.old) (map (λ r. r.items) rows.now.items) leads.now.items v.old v.new }
 {
     for i in 0..rows.len() {
         clear_row(f, leads[i], &rows[i], v);
@@ -35,7 +35,7 @@ fn rest_of(
     requires vector { IsVector f (length row.now) row.now }
     requires each { AreVectors f (length row.now) (map (λ r. r.items) rows.now.items) }
     requires leads { Leads (length row.now) 0 (map (λ r. r.items) rows.now.items) leads.now.items }
-    ensures { IfOk result (λ rest. IsRest f (length row.now) (map (λ r. r.items) rows.now.items) leads.now.items row.now rest.items) }
+    ensures { IfOk result (λ rest. IsResidue f (length row.now) (map (λ r. r.items) rows.now.items) leads.now.items row.now rest.items) }
 {
     let mut rest = row.to_vec(alloc)?;
     reduce(f, rows, leads, &mut rest);

@@ -5,8 +5,8 @@ ghost use Rattle.mm_field.specs.Digits.{order};
 ghost use Rattle.mm_field.specs.Vectors.{AreDigits, vector_sum, multiple};
 ghost use Rattle.mm_linear.specs.Coordinates.{unit};
 ghost use Rattle.mm_matrix.specs.Orthogonal.{IsOrthogonalBasis};
-ghost use Rattle.mm_matrix.specs.Projections.{null_row, null_row_at, left};
-ghost use Rattle.mm_matrix.specs.Rests.{AreReduced};
+ghost use Rattle.mm_matrix.specs.Projections.{kernel_vector, kernel_vector_at, left};
+ghost use Rattle.mm_matrix.specs.Residues.{AreReduced};
 
 use crate::echelon::Echelon;
 use crate::matrix::Matrix;
@@ -20,7 +20,7 @@ pub fn orthogonal(alloc: Global, m: &Matrix) -> Result<Matrix, NoMemory>
     ensures { IfOk result (λ basis. IsOrthogonalBasis m.now basis) }
 {
     let space = Echelon::of(alloc, m)?;
-    let null = space.null_rows(alloc)?;
+    let null = space.kernel_vectors(alloc)?;
     let basis = Echelon::of(alloc, &null)?;
     Ok(basis.into_matrix())
 }
@@ -48,7 +48,7 @@ fn add_shares(f: Field, rows: &Vec<Vec<u8>>, leads: &Vec<usize>, j: usize, row: 
 }
 
 /// The unit vector at column `j`, made orthogonal to the rows by shares at their leads.
-fn null_row(
+fn kernel_vector(
     alloc: Global,
     f: Field,
     cols: usize,
@@ -58,7 +58,7 @@ fn null_row(
 ) -> Result<Vec<u8>, NoMemory>
     requires reduced { AreReduced f cols (map (λ r. r.items) rows.now.items) leads.now.items }
     requires column { j < cols }
-    ensures { IfOk result (λ row. row.items ≡ null_row f cols (map (λ r. r.items) rows.now.items) leads.now.items j) }
+    ensures { IfOk result (λ row. row.items ≡ kernel_vector f cols (map (λ r. r.items) rows.now.items) leads.now.items j) }
 {
     let mut row = vec![in alloc; 0; cols]?;
     row[j] = 1;
@@ -74,7 +74,7 @@ fn is_lead(leads: &[usize], j: usize) -> bool
 }
 
 /// Puts the projection of the unit vector at column `j` after the other rows of `null`, unless `j` is a lead.
-pub fn add_null_row(
+pub fn add_kernel_vector(
     alloc: Global,
     f: Field,
     rows: &Vec<Vec<u8>>,
@@ -85,11 +85,11 @@ pub fn add_null_row(
     requires reduced { AreReduced f null.old.cols (map (λ r. r.items) rows.now.items) leads.now.items }
     requires field { null.old.f ≡ f }
     requires column { j < null.old.cols }
-    ensures { OnOk result (null.new ≡ record null.old { rows = null.old.rows ++ null_row_at f null.old.cols (map (λ r. r.items) rows.now.items) leads.now.items j }) }
+    ensures { OnOk result (null.new ≡ record null.old { rows = null.old.rows ++ kernel_vector_at f null.old.cols (map (λ r. r.items) rows.now.items) leads.now.items j }) }
 {
     if is_lead(leads, j) {
         return Ok(());
     }
-    let row = null_row(alloc, f, null.cols(), rows, leads, j)?;
+    let row = kernel_vector(alloc, f, null.cols(), rows, leads, j)?;
     null.push_row(alloc, &row)
 }

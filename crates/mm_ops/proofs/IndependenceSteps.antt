@@ -4,11 +4,11 @@ use Rattle.std.proofs.lemmas.List.Elements.{All-cons}
 use Rattle.std.proofs.lemmas.Bool.{false_from_ne_true, both_ways}
 use Rattle.mm_field.specs.declared.Field.{Field}
 use Rattle.mm_field.specs.Vectors.{IsVector, AreVectors, InSpan, IsWithin}
-use Rattle.mm_field.proofs.CombinationLaws.{first_row, other_rows, InSpan-within, InSpan-first, InSpan-one_more, IsWithin-within}
+use Rattle.mm_field.proofs.CombinationLemmas.{first_row, other_rows, InSpan-within, InSpan-first, InSpan-one_more, IsWithin-within}
 use Rattle.mm_linear.specs.Decide.{is_independent}
-use Rattle.mm_linear.proofs.DecideLaws.{is_independent_decides}
+use Rattle.mm_linear.proofs.DecideLemmas.{is_independent_decides}
 use Rattle.mm_space.specs.SpaceValue.{SpaceValue, IsIn, IsSpanOf}
-use Rattle.mm_linear.proofs.IndependenceLaws.{independent_more, independent_rest, independent_outside}
+use Rattle.mm_linear.proofs.IndependenceLemmas.{independent_more, independent_rest, independent_outside}
 
 -- a row outside the span of independent rows
 pub one_more : (f : Field) (n : ℕ) (v : List ℕ) (vs : List (List ℕ)) → AreVectors f n (v ∷ vs) → is_independent f n vs ≡ true →

@@ -1,3 +1,3 @@
 pub mod IndependenceSteps
 pub mod ValidOps
-pub mod TableLaws
+pub mod TableLemmas

@@ -9,8 +9,8 @@ use Rattle.mm_field.specs.declared.Field.{Field}
 use Rattle.mm_field.specs.Vectors.{AreDigits, IsVector, AreVectors}
 use Rattle.mm_linear.specs.Decide.{is_independent}
 use Rattle.mm_linear.specs.Coordinates.{unit}
-use Rattle.mm_linear.proofs.DecideLaws.{is_independent_decides}
-use Rattle.mm_linear.proofs.BasisLaws.{IsVector-unit}
+use Rattle.mm_linear.proofs.DecideLemmas.{is_independent_decides}
+use Rattle.mm_linear.proofs.BasisLemmas.{IsVector-unit}
 use Rattle.mm_logic.specs.Operator.{Op, IsBoundary, IsValidOp, row_length}
 use Rattle.mm_ops.specs.OpFaults.{is_within_bounds, has_shape, has_shapes, first_dependent, dependence, fault_of}
 use Rattle.mm_ops.specs.declared.op.OpFault.TheVariants.{Bound, Shape}

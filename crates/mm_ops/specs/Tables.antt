@@ -8,19 +8,19 @@ use Rattle.mm_ops.specs.declared.table.OpTableFault.{OpTableFault}
 use Rattle.mm_ops.specs.declared.table.OpTableFault.TheVariants.{NameTaken, Full, NoMemory}
 
 -- the operators with their names, in the order in which they were added
-abbrev pub Named : Type 0
-Named = List (List ℕ × OpValue)
+abbrev pub OperatorList : Type 0
+OperatorList = List (List ℕ × OpValue)
 
 -- the operator of a name
-abbrev pub op_named : List ℕ → Named → Option OpValue
+abbrev pub op_named : List ℕ → OperatorList → Option OpValue
 op_named name [] = None
 op_named name (entry ∷ entries) = if bytes_eq name entry.0 then Some entry.1 else op_named name entries
 
-abbrev pub has_name : List ℕ → Named → Bool
+abbrev pub has_name : List ℕ → OperatorList → Bool
 has_name name entries = list_any (λ (entry : List ℕ × OpValue). bytes_eq name entry.0) entries
 
 -- Why an operator is not added: its name is there, or 4096 operators are.
-abbrev pub refusal_of : List ℕ → Named → Option OpTableFault
+abbrev pub refusal_of : List ℕ → OperatorList → Option OpTableFault
 refusal_of name entries = if has_name name entries then Some NameTaken else (if nat_le 4096 (length entries) then Some Full else None)
 
 -- what adding an operator answers, by its refusal; memory may be missing at any time

@@ -34,9 +34,9 @@ pub struct OpTable {
 }
 
 impl Model for OpTable {
-    ghost use Rattle.mm_ops.specs.Tables.{Named};
+    ghost use Rattle.mm_ops.specs.Tables.{OperatorList};
 
-    ghost Value = { Named };
+    ghost Value = { OperatorList };
 
     ghost view = { λ t. t.ops.entries };
 }

@@ -1,13 +1,13 @@
-pub mod RowFormLaws
-mod SideLaws
+pub mod RowFormLemmas
+mod SideLemmas
 mod OperatorEquality
-mod KnownLaws
-mod GrowLaws
-mod SolveLaws
-mod RangeLaws
+mod KnownLemmas
+mod GrowLemmas
+mod SolveLemmas
+mod RangeLemmas
 pub mod TreeRows
-mod NodeLaws
-pub mod NameLaws
-mod StackLaws
-pub mod CompareLaws
-mod RankLaws
+mod NodeLemmas
+pub mod NameLemmas
+mod StackLemmas
+pub mod CompareLemmas
+mod RankLemmas

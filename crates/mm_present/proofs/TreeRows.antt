@@ -9,9 +9,9 @@ use Rattle.mm_field.specs.declared.Field.{Field}
 use Rattle.mm_field.specs.Digits.{order}
 use Rattle.mm_field.specs.Vectors.{zeros, IsVector, AreVectors}
 use Rattle.mm_field.proofs.Tables.{zero_digit}
-use Rattle.mm_field.proofs.PartLaws.{zeros-append}
-use Rattle.mm_laws.proofs.MatrixLemmas.{length-columns, columns_are}
-use Rattle.mm_laws.proofs.RowLemmas.{internal-rows}
+use Rattle.mm_field.proofs.PartLemmas.{zeros-append}
+use Rattle.mm_logic_laws.proofs.MatrixLemmas.{length-columns, columns_are}
+use Rattle.mm_logic_laws.proofs.RowLemmas.{internal-rows}
 use Rattle.mm_logic.specs.Operator.{Op, row_length}
 use Rattle.mm_logic.specs.PresentMatrix.{columns, internal, internal_row, matrix_row}
 use Rattle.mm_logic.specs.Tree.{Tree, size, boundary, IsValid}
@@ -19,9 +19,9 @@ use Rattle.mm_logic.specs.Tree.Tree.{Elem, Void, Join}
 use Rattle.mm_matrix.specs.MatrixValue.{MatrixValue}
 use Rattle.mm_present.specs.RowForm.{row_of}
 use Rattle.mm_present.specs.Joining.{widened, boundary_rows, internal_rows, placed_rows, joined_row}
-use Rattle.mm_present.proofs.GrowLaws.{matrix}
-use Rattle.mm_present.proofs.RangeLaws.{split_range, shift_range, same_range, map_each}
-use Rattle.mm_present.proofs.RowFormLaws.{join_rows_are_combined}
+use Rattle.mm_present.proofs.GrowLemmas.{matrix}
+use Rattle.mm_present.proofs.RangeLemmas.{split_range, shift_range, same_range, map_each}
+use Rattle.mm_present.proofs.RowFormLemmas.{join_rows_are_combined}
 
 -- ---- rows are vectors
 

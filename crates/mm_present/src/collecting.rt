@@ -53,7 +53,7 @@ fn leaf_rows(alloc: Global, f: Field, leaf: &Leaf) -> Result<Matrix, NoMemory>
     }
 }
 
-/// Rows t3 to t3 + c - 1 of a join, the last first, each among all elements, put behind those of `internal`.
+/// Rows t3 to t3 + c - 1 of a join, the last first, each among all elements, put after those of `internal`.
 fn push_internal(
     alloc: Global,
     op: &Op,
@@ -95,7 +95,7 @@ fn boundary_of_join(alloc: Global, op: &Op, left: &Side, right: &Side) -> Result
     Ok(rows)
 }
 
-/// The boundary rows of a join, from those of its children; its own internal rows are put behind those of `internal`.
+/// The boundary rows of a join, from those of its children; its own internal rows are put after those of `internal`.
 fn join_rows(
     alloc: Global,
     op: &Op,
@@ -125,7 +125,7 @@ fn join_rows(
     boundary_of_join(alloc, op, &left, &right)
 }
 
-/// The boundary rows of a node, over its own elements. Its internal rows are put behind those of `internal`, the last first, each over
+/// The boundary rows of a node, over its own elements. Its internal rows are put after those of `internal`, the last first, each over
 /// all `total` elements, of which `after` come after the node's own. Operators that are not `known` yet are put there.
 pub(crate) fn collect(
     alloc: Global,

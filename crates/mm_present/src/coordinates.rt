@@ -7,7 +7,7 @@ ghost use Rattle.mm_field.specs.Digits.{order};
 ghost use Rattle.mm_field.specs.Vectors.{AreDigits, IsVector, AreVectors};
 ghost use Rattle.mm_linear.specs.Coordinates as basis_words;
 ghost use Rattle.mm_linear.specs.Decide.{is_in_span};
-ghost use Rattle.mm_linear.specs.LeftRows.{reduced_basis};
+ghost use Rattle.mm_linear.specs.ReducedEchelon.{reduced_basis};
 ghost use Rattle.mm_logic.specs.Operator.{IsValidOp, row_length};
 ghost use Rattle.mm_present.specs.Bases.{IsBasisOf, space_after};
 ghost use Rattle.mm_present.specs.RowForm.{in_join};
@@ -130,12 +130,12 @@ impl Basis {
 }
 
 /// x less c times v.
-fn less(alloc: Global, f: Field, x: &[u8], c: u8, v: &[u8]) -> Result<Vec<u8>, NoMemory>
+fn minus_multiple(alloc: Global, f: Field, x: &[u8], c: u8, v: &[u8]) -> Result<Vec<u8>, NoMemory>
     requires same_length { length v.now ≡ length x.now }
     requires factor { c < order f }
     requires digits_x { AreDigits f x.now }
     requires digits_v { AreDigits f v.now }
-    ensures { IfOk result (λ rest. (rest.items ≡ basis_words.less f x.now c v.now) × IsVector f (length x.now) rest.items) }
+    ensures { IfOk result (λ rest. (rest.items ≡ basis_words.minus_multiple f x.now c v.now) × IsVector f (length x.now) rest.items) }
 {
     let mut rest = x.to_vec(alloc)?;
     lanes::axpy(f, f.neg(c), v, &mut rest);
@@ -159,7 +159,7 @@ fn first_coordinate(
     ensures { IfOk result (λ c. c ≡ basis_words.digit_below f (length x.now) space.now.rows v.now x.now (order f)) }
 {
     for c in (0..f.q()).rev() {
-        let rest = less(alloc, f, x, c, v)?;
+        let rest = minus_multiple(alloc, f, x, c, v)?;
         if is_inside(alloc, f, space, &rest)? {
             return Ok(c);
         }
@@ -179,7 +179,7 @@ fn coordinates(alloc: Global, op: &Op, basis: &Basis, x: &[u8]) -> Result<Vec<u8
     for i in 0..basis.rows.rows() {
         let c = first_coordinate(alloc, f, basis.rows.row(i), &basis.later[i], &rest)?;
         digits.push(c)?;
-        rest = less(alloc, f, &rest, c, basis.rows.row(i))?;
+        rest = minus_multiple(alloc, f, &rest, c, basis.rows.row(i))?;
     }
     Ok(digits)
 }

@@ -11,7 +11,7 @@ use mm_tree::{Leaf, Node, Tree};
 use std::alloc::Global;
 
 /// Adds the name of a leaf to a list, where it has an element.
-#[tactic(auto, using(crate::proofs::NameLaws::element_name, crate::proofs::NameLaws::no_element))]
+#[tactic(auto, using(crate::proofs::NameLemmas::element_name, crate::proofs::NameLemmas::no_element))]
 fn push_leaf(alloc: Global, leaf: &Leaf, names: &mut NameList) -> Result<(), NoMemory>
     ensures { OnOk result (names.new ≡ names.old ++ element_names (named_leaf leaf.now)) }
 {

@@ -17,7 +17,7 @@ use mm_matrix::Matrix;
 use mm_tree::{Node, Tree};
 use std::alloc::Global;
 
-/// Moves the rows behind those of the matrix, the last first.
+/// Moves the rows after those of the matrix, the last first.
 fn stack(alloc: Global, mut matrix: Matrix, mut rows: Vec<Vec<u8>>) -> Result<Matrix, NoMemory>
     requires { AreVectors matrix.f matrix.cols (map (λ r. r.items) rows.items) }
     ensures { IfOk result (λ m. m ≡ record matrix { rows = matrix.rows ++ reverse (map (λ r. r.items) rows.items) }) }

@@ -49,7 +49,7 @@ fn put_side(side: &Side, k: usize, start: usize, row: &mut [u8])
     add_side(side, k, &mut row[start..start + side.rows.cols()]);
 }
 
-/// Puts row k of the join behind the first `before` digits of a row of zeros.
+/// Puts row k of the join after the first `before` digits of a row of zeros.
 fn put_sides(left: &Side, right: &Side, k: usize, before: usize, after: usize, row: &mut [u8])
     requires left { IsSide left.now.rows.f left.now.digits.now.cols left.now }
     requires right { IsSide right.now.rows.f right.now.digits.now.cols right.now }

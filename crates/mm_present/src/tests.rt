@@ -14,7 +14,7 @@ use mm_tree::{Builder, Tree};
 use std::alloc::Global;
 use std::test::Fail;
 
-/// Puts an element with the boundary 1 behind the trees that are there.
+/// Puts an element with the boundary 1 after the trees that are there.
 fn add(alloc: Global, builder: &mut Builder, name: &[u8]) -> Option<()>
     requires { builder.old.f ≡ Two }
     ensures { builder.new.f ≡ Two }

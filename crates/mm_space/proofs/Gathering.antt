@@ -4,21 +4,21 @@ use Rattle.std.proofs.lemmas.List.{drop_more, drop_all, get_or-map, length-map, 
 use Rattle.std.proofs.lemmas.List.Elements.{All-nil, All-drop, All-replicate, All-map}
 use Rattle.mm_field.specs.declared.Field.{Field}
 use Rattle.mm_field.specs.Digits.{times}
-use Rattle.mm_field.specs.Vectors.{zeros, vector_sum, multiple, combination, through, IsVector, AreVectors, InSpan, SameRowSpace}
+use Rattle.mm_field.specs.Vectors.{zeros, vector_sum, multiple, combination, times_matrix, IsVector, AreVectors, InSpan, SameRowSpace}
 use Rattle.mm_field.proofs.Tables.{times-zero}
-use Rattle.mm_field.proofs.VectorLaws.{vector_sum_comm}
-use Rattle.mm_field.proofs.CombinationLaws.{IsVector-combination}
-use Rattle.mm_field.proofs.PartLaws.{AreVectors-map}
+use Rattle.mm_field.proofs.VectorLemmas.{vector_sum_comm}
+use Rattle.mm_field.proofs.CombinationLemmas.{IsVector-combination}
+use Rattle.mm_field.proofs.PartLemmas.{AreVectors-map}
 use Rattle.mm_linear.specs.Echelons.{EndsAt}
 use Rattle.mm_linear.specs.Padded.{padded}
-use Rattle.mm_linear.proofs.EchelonLaws.{combination_entry_zero}
-use Rattle.mm_linear.proofs.SpaceLaws.{IsVector-padded, padded_past}
-use Rattle.mm_linear.proofs.SubspaceLaws.{pad, combination-pad}
-use Rattle.mm_linear.proofs.SumLaws.{next_rows, same_more}
+use Rattle.mm_linear.proofs.EchelonLemmas.{combination_entry_zero}
+use Rattle.mm_linear.proofs.SpaceLemmas.{IsVector-padded, padded_past}
+use Rattle.mm_linear.proofs.SubspaceLemmas.{pad, combination-pad}
+use Rattle.mm_linear.proofs.SumLemmas.{next_rows, same_more}
 use Rattle.mm_space.specs.Images.{wide_images}
 use Rattle.mm_space.specs.Insertion.{IsHeld, IsInserted}
 use Rattle.mm_space.specs.SpaceValue.{IsSpanOf, corner}
-use Rattle.mm_space.proofs.KeptLaws.{zero_in_none, zero_held, padded_is, corner_each, held_spans}
+use Rattle.mm_space.proofs.KeptLemmas.{zero_in_none, zero_held, padded_is, corner_each, held_spans}
 
 -- all has the span of the list from row i on
 pub record IsGathering (f : Field) (n r : ℕ) (rows : List (List ℕ)) (i : ℕ) (all : List (List ℕ)) : Type 0 where
@@ -103,28 +103,28 @@ wide_image_ends f r g b l h j low m =
     ∙ times-zero f (get_or b i 0))
 
 pub wide_image_is : (f : Field) (r : ℕ) (g : List (List ℕ)) (b : List ℕ) → r ≤ 24 → AreVectors f r g →
-    combination f 24 b (map (padded 24) g) ≡ pad (24 - r) (through f r g b)
+    combination f 24 b (map (padded 24) g) ≡ pad (24 - r) (times_matrix f r g b)
 wide_image_is f r g b l h =
     let w : r + (24 - r) ≡ 24 = omega arith in
     ap (combination f 24 b) (map_same (padded 24) (pad (24 - r)) g (λ i li. padded_is 24 r (get_or g i []) (h i [] li).len))
     ∙ subst (λ m. combination f m b (map (pad (24 - r)) g) ≡ pad (24 - r) (combination f r b g)) w (combination-pad f r (24 - r) b g h)
 
 pub image_is : (f : Field) (r : ℕ) (g rows all : List (List ℕ)) → r ≤ 24 → AreVectors f r g → IsHeld f 24 r all →
-    SameRowSpace f 24 (wide_images f g rows) all → IsSpanOf f r (map (through f r g) rows) (record { f = f; r = r; rows = corner r all })
+    SameRowSpace f 24 (wide_images f g rows) all → IsSpanOf f r (map (times_matrix f r g) rows) (record { f = f; r = r; rows = corner r all })
 image_is f r g rows all l h k same =
-    let hv : AreVectors f r (map (through f r g) rows) =
-    All-map (λ v. IsVector f r v) (through f r g) rows (λ i d m. IsVector-combination f r (get_or rows i d) g h) in
-    let wide : wide_images f g rows ≡ map (pad (24 - r)) (map (through f r g) rows) =
-    map_same (λ b. combination f 24 b (map (padded 24) g)) (λ b. pad (24 - r) (through f r g b)) rows
+    let hv : AreVectors f r (map (times_matrix f r g) rows) =
+    All-map (λ v. IsVector f r v) (times_matrix f r g) rows (λ i d m. IsVector-combination f r (get_or rows i d) g h) in
+    let wide : wide_images f g rows ≡ map (pad (24 - r)) (map (times_matrix f r g) rows) =
+    map_same (λ b. combination f 24 b (map (padded 24) g)) (λ b. pad (24 - r) (times_matrix f r g b)) rows
     (λ i li. wide_image_is f r g (get_or rows i []) l h)
     ∙ map_twice rows in
     record {
       field = refl;
       length = refl;
       each = corner_each f 24 r all k;
-      span = held_spans f 24 r (map (through f r g) rows) all k hv (subst (λ X. SameRowSpace f 24 X all) wide same);
+      span = held_spans f 24 r (map (times_matrix f r g) rows) all k hv (subst (λ X. SameRowSpace f 24 X all) wide same);
     }
   where
-    map_twice : (rows : List (List ℕ)) → map (λ b. pad (24 - r) (through f r g b)) rows ≡ map (pad (24 - r)) (map (through f r g) rows)
+    map_twice : (rows : List (List ℕ)) → map (λ b. pad (24 - r) (times_matrix f r g b)) rows ≡ map (pad (24 - r)) (map (times_matrix f r g) rows)
     map_twice [] = refl
-    map_twice (b ∷ bs) = ap (λ x. pad (24 - r) (through f r g b) ∷ x) (map_twice bs)
+    map_twice (b ∷ bs) = ap (λ x. pad (24 - r) (times_matrix f r g b) ∷ x) (map_twice bs)

@@ -3,35 +3,35 @@ use Rattle.std.proofs.Common.{ℕ, ◌≡◌, ◌↔◌, Bool, List, ◌++◌, s
 use Rattle.std.specs.Prelude.{IsTrue}
 use Rattle.std.proofs.lemmas.List.Elements.{All-append}
 use Rattle.mm_field.specs.declared.Field.{Field}
-use Rattle.mm_field.specs.Vectors.{through, IsVector, AreVectors, InSpan, SameRowSpace}
-use Rattle.mm_field.proofs.CombinationLaws.{InSpan-within, IsVector-combination}
+use Rattle.mm_field.specs.Vectors.{times_matrix, IsVector, AreVectors, InSpan, SameRowSpace}
+use Rattle.mm_field.proofs.CombinationLemmas.{InSpan-within, IsVector-combination}
 use Rattle.mm_linear.specs.Decide.{is_in_span, meets_in_zero}
-use Rattle.mm_linear.specs.Meets.{Meet}
+use Rattle.mm_linear.specs.Meets.{MeetTrivially}
 use Rattle.mm_linear.specs.Subspaces.{preimage}
 use Rattle.mm_linear.proofs.MeetTest.{is_in_span_decides, meets_in_zero_decides}
-use Rattle.mm_linear.proofs.SumLaws.{same_itself}
+use Rattle.mm_linear.proofs.SumLemmas.{same_itself}
 use Rattle.mm_linear.proofs.SubspaceTests.{subspace_same, same_test}
 use Rattle.mm_space.specs.SpaceValue.{SpaceValue, IsSpanOf}
 use Rattle.mm_space.specs.KeyValue.{KeyValue}
 use Rattle.mm_space.specs.Preimages.{IsPreimage}
-use Rattle.mm_space.proofs.KeptLaws.{same_append}
+use Rattle.mm_space.proofs.KeptLemmas.{same_append}
 
 -- ---- over rows that span the same
 
 meet_same : (f : Field) (n : ℕ) (A B C D : List (List ℕ)) → AreVectors f n C → AreVectors f n D → SameRowSpace f n A C → SameRowSpace f n B D →
-    Meet f n C D → Meet f n A B
+    MeetTrivially n (InSpan f n C) (InSpan f n D) → MeetTrivially n (InSpan f n A) (InSpan f n B)
 meet_same f n A B C D hc hd s t m z p q = m z (InSpan-within f n A C z hc s.0 p) (InSpan-within f n B D z hd t.0 q)
 
-turned_same : (f : Field) (n : ℕ) (A B : List (List ℕ)) → SameRowSpace f n A B → SameRowSpace f n B A
-turned_same f n A B s = (s.1, s.0)
+reversed_same : (f : Field) (n : ℕ) (A B : List (List ℕ)) → SameRowSpace f n A B → SameRowSpace f n B A
+reversed_same f n A B s = (s.1, s.0)
 
 preimage_same : (f : Field) (t r : ℕ) (g A B : List (List ℕ)) → AreVectors f r g → AreVectors f r A → AreVectors f r B → SameRowSpace f r A B →
     preimage f t r g A ≡ preimage f t r g B
 unfolding preimage
 preimage_same f t r g A B hg ha hb s =
-    subspace_same f t (λ b. is_in_span f r A (through f r g b)) (λ b. is_in_span f r B (through f r g b))
+    subspace_same f t (λ b. is_in_span f r A (times_matrix f r g b)) (λ b. is_in_span f r B (times_matrix f r g b))
     (λ b h.
-    let v = through f r g b in
+    let v = times_matrix f r g b in
     let hv = IsVector-combination f r b g hg in
     same_test (InSpan f r A v) (InSpan f r B v) (is_in_span f r A v) (is_in_span f r B v)
     (is_in_span_decides f r A v ha hv) (is_in_span_decides f r B v hb hv)
@@ -48,16 +48,16 @@ pub record AreImages (f : Field) (r : ℕ) (A B : List (List ℕ)) (left right :
 
 -- whether the spaces meet in zero alone is the test of the images
 pub meets_rule : (f : Field) (r : ℕ) (A B : List (List ℕ)) (left right : SpaceValue) (b : Bool) → AreImages f r A B left right →
-    IsTrue b ↔ Meet left.f left.r left.rows right.rows → b ≡ meets_in_zero f r A B
+    IsTrue b ↔ MeetTrivially left.r (InSpan left.f left.r left.rows) (InSpan left.f left.r right.rows) → b ≡ meets_in_zero f r A B
 meets_rule f r A B left right b h both =
-    let here : IsTrue b ↔ Meet f r left.rows right.rows =
-    subst (λ g. IsTrue b ↔ Meet g r left.rows right.rows) h.first.field
-    (subst (λ n. IsTrue b ↔ Meet left.f n left.rows right.rows) h.first.length both) in
-    same_test (Meet f r left.rows right.rows) (Meet f r A B) b (meets_in_zero f r A B) here
+    let here : IsTrue b ↔ MeetTrivially r (InSpan f r left.rows) (InSpan f r right.rows) =
+    subst (λ g. IsTrue b ↔ MeetTrivially r (InSpan g r left.rows) (InSpan g r right.rows)) h.first.field
+    (subst (λ n. IsTrue b ↔ MeetTrivially n (InSpan left.f n left.rows) (InSpan left.f n right.rows)) h.first.length both) in
+    same_test (MeetTrivially r (InSpan f r left.rows) (InSpan f r right.rows)) (MeetTrivially r (InSpan f r A) (InSpan f r B)) b (meets_in_zero f r A B) here
     (meets_in_zero_decides f r A B h.first_each h.second_each) (
       (λ m. meet_same f r A B left.rows right.rows h.first.each h.second.each h.first.span h.second.span m),
-      (λ m. meet_same f r left.rows right.rows A B h.first_each h.second_each (turned_same f r A left.rows h.first.span)
-          (turned_same f r B right.rows h.second.span) m),
+      (λ m. meet_same f r left.rows right.rows A B h.first_each h.second_each (reversed_same f r A left.rows h.first.span)
+          (reversed_same f r B right.rows h.second.span) m),
     )
 
 -- the preimage of the sum is that of all images

@@ -1,13 +1,13 @@
-mod TextLaws
-mod GenTextLaws
-mod RowLaws
-pub mod KeptLaws
+mod TextLemmas
+mod GenTextLemmas
+mod RowLemmas
+pub mod KeptLemmas
 mod SumSteps
 pub mod Gathering
-mod PreimageLaws
-mod HeadLaws
-mod EqualLaws
-mod TurnedLaws
-mod PackLaws
+mod PreimageLemmas
+mod HeadLemmas
+mod EqualLemmas
+mod ReversedLemmas
+mod PackLemmas
 mod PackSteps
 pub mod JoinRule

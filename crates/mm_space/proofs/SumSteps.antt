@@ -4,11 +4,11 @@ use Rattle.std.specs.Prelude.{IsTrue}
 use Rattle.mm_field.specs.declared.Field.{Field}
 use Rattle.mm_field.specs.Vectors.{InSpan, SameRowSpace}
 use Rattle.mm_linear.specs.Echelons.{entry}
-use Rattle.mm_linear.specs.Meets.{Meet}
-use Rattle.mm_linear.proofs.SpaceLaws.{false_true}
-use Rattle.mm_linear.proofs.SumLaws.{span_next, span_next_zero, meet_next, meet_next_zero, meet_refuted}
+use Rattle.mm_linear.specs.Meets.{MeetTrivially}
+use Rattle.mm_linear.proofs.SpaceLemmas.{false_true}
+use Rattle.mm_linear.proofs.SumLemmas.{span_next, span_next_zero, meet_next, meet_next_zero, meet_refuted}
 use Rattle.mm_space.specs.Insertion.{IsHeld, IsInserted}
-use Rattle.mm_space.proofs.KeptLaws.{late_start, late_meet}
+use Rattle.mm_space.proofs.KeptLemmas.{late_start, late_meet}
 
 -- all has the span of the rows and of more from row i on
 pub record IsAdding (f : Field) (n r : ℕ) (rows more : List (List ℕ)) (i : ℕ) (all : List (List ℕ)) : Type 0 where
@@ -54,7 +54,7 @@ adding_end f n r rows more i all e a = subst (λ k. SameRowSpace f n (drop k mor
 -- the same, where none of the rows so far was inside
 pub record IsApart (f : Field) (n r : ℕ) (rows more : List (List ℕ)) (i : ℕ) (all : List (List ℕ)) : Type 0 where
   pub adding : IsAdding f n r rows more i all
-  pub meet : Meet f n rows (drop i more)
+  pub meet : MeetTrivially n (InSpan f n rows) (InSpan f n (drop i more))
 
 pub apart_start : (f : Field) (n r : ℕ) (rows more : List (List ℕ)) → IsHeld f n r rows → IsHeld f n r more →
     IsApart f n r rows more r rows
@@ -82,13 +82,13 @@ apart_zero f n r rows more i all h k p a none =
     }
 
 pub apart_end : (f : Field) (n r : ℕ) (rows more : List (List ℕ)) (i : ℕ) (all : List (List ℕ)) → i ≡ 0 → IsApart f n r rows more i all →
-    IsTrue true ↔ Meet f n rows more
-apart_end f n r rows more i all e a = ((λ t. subst (λ k. Meet f n rows (drop k more)) e a.meet), (λ m. refl))
+    IsTrue true ↔ MeetTrivially n (InSpan f n rows) (InSpan f n more)
+apart_end f n r rows more i all e a = ((λ t. subst (λ k. MeetTrivially n (InSpan f n rows) (InSpan f n (drop k more))) e a.meet), (λ m. refl))
 
 -- a row that is inside already shows that the spaces meet
 pub apart_fails : (f : Field) (n r : ℕ) (rows more : List (List ℕ)) (i : ℕ) (all : List (List ℕ)) → IsHeld f n r rows →
     IsHeld f n r more → 0 < i → IsApart f n r rows more i all → (entry more (i - 1) (i - 1) ≡ 0 → ⊥) →
-    InSpan f n all (get_or more (i - 1) []) → IsTrue false ↔ Meet f n rows more
+    InSpan f n all (get_or more (i - 1) []) → IsTrue false ↔ MeetTrivially n (InSpan f n rows) (InSpan f n more)
 apart_fails f n r rows more i all h k p a some inside =
     let low = a.adding.low in
     let narrow = k.narrow in (

@@ -4,7 +4,7 @@ use Rattle.std.specs.List.{range_with_len}
 use Rattle.mm_field.specs.declared.Field.{Field}
 use Rattle.mm_field.specs.declared.Field.TheVariants.{Two, Three, Four, Five}
 use Rattle.mm_field.specs.Vectors.{InSpan, IsVector, AreVectors}
-use Rattle.mm_linear.specs.LeftRows.{reduced_basis}
+use Rattle.mm_linear.specs.ReducedEchelon.{reduced_basis}
 
 -- a subspace of F^t by its reduced echelon basis: first digits are 1, from left to right, with zeros above and below each
 pub record KeyValue : Type 0 where

@@ -1,7 +1,7 @@
 -- How a `Key` is kept.
 use Rattle.std.specs.Prelude.{◌≡◌, ◌≤◌, length}
 use Rattle.mm_field.specs.Vectors.{AreVectors}
-use Rattle.mm_linear.specs.LeftRows.{reduced_basis}
+use Rattle.mm_linear.specs.ReducedEchelon.{reduced_basis}
 use Rattle.mm_space.specs.KeyValue.{KeyValue, packed, unpacked}
 use Rattle.mm_space.specs.declared.key.Key.TheInside.{Inside}
 

@@ -2,11 +2,11 @@
 use Rattle.std.specs.Prelude.{ℕ, ◌-◌, ◌≡◌, ◌↔◌, List, [], ◌++◌, map, take, slice_index_or}
 use Rattle.std.specs.List.{range_with_len}
 use Rattle.mm_field.specs.declared.Field.{Field}
-use Rattle.mm_field.specs.Vectors.{zeros, through, IsVector, AreVectors, InSpan}
+use Rattle.mm_field.specs.Vectors.{zeros, times_matrix, IsVector, AreVectors, InSpan}
 use Rattle.mm_linear.specs.Padded.{padded}
 use Rattle.mm_linear.specs.Eliminate.{residue}
 use Rattle.mm_linear.specs.Coordinates.{unit}
-use Rattle.mm_linear.specs.LeftRows.{reduced_basis}
+use Rattle.mm_linear.specs.ReducedEchelon.{reduced_basis}
 use Rattle.mm_linear.specs.Subspaces.{boundary_space, preimage}
 use Rattle.mm_space.specs.SpaceValue.{SpaceValue, IsIn}
 use Rattle.mm_space.specs.KeyValue.{KeyValue}
@@ -17,7 +17,7 @@ pub record IsPreimage (s : SpaceValue) (g : List (List ℕ)) (t : ℕ) (key : Ke
   pub length : key.t ≡ t
   pub each : AreVectors s.f t key.rows
   pub reduced : reduced_basis s.f t key.rows ≡ key.rows
-  pub all : (b : List ℕ) → IsVector s.f t b → InSpan s.f t key.rows b ↔ IsIn s (through s.f s.r g b)
+  pub all : (b : List ℕ) → IsVector s.f t b → InSpan s.f t key.rows b ↔ IsIn s (times_matrix s.f s.r g b)
   pub rows : key.rows ≡ preimage s.f t s.r g s.rows
 
 -- the key is the subspace of all b of F^t such that b followed by zeros is in the space

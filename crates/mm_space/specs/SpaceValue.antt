@@ -1,7 +1,7 @@
 -- Subspaces of F^r.
 use Rattle.std.specs.Prelude.{ℕ, ◌≡◌, ◌↔◌, List, map, take}
 use Rattle.mm_field.specs.declared.Field.{Field}
-use Rattle.mm_field.specs.Vectors.{through, InSpan, IsVector, AreVectors, SameRowSpace}
+use Rattle.mm_field.specs.Vectors.{times_matrix, InSpan, IsVector, AreVectors, SameRowSpace}
 
 -- a subspace of F^r, by r rows of r digits that span it: the reduced echelon rows, each at the place of its last digit
 pub record SpaceValue : Type 0 where
@@ -21,7 +21,7 @@ HaveSameVectors s u = (v : List ℕ) → IsVector s.f s.r v → IsIn s v ↔ IsI
 pub record IsImage (f : Field) (t r : ℕ) (rows g : List (List ℕ)) (z : List ℕ) : Type 0 where
   pub source : List ℕ
   pub inside : InSpan f t rows source
-  pub gives : through f r g source ≡ z
+  pub gives : times_matrix f r g source ≡ z
 
 -- the space is the span of the vectors in F^r
 pub record IsSpanOf (f : Field) (r : ℕ) (vectors : List (List ℕ)) (s : SpaceValue) : Type 0 where

@@ -5,7 +5,7 @@ ghost use Rattle.std.specs.Prelude.{◌≡◌, ◌<◌, ◌≤◌, ◌+◌, ◌*
 ghost use Rattle.mm_field.specs.Digits.{order};
 ghost use Rattle.mm_field.specs.Vectors.{AreDigits};
 ghost use Rattle.mm_linear.specs.Echelons.{IsEchelon};
-ghost use Rattle.mm_linear.specs.LeftRows.{turned_rows};
+ghost use Rattle.mm_linear.specs.ReducedEchelon.{reversed_rows};
 ghost use Rattle.mm_space.specs.SpaceValue.{corner};
 ghost use Rattle.mm_space.specs.KeyView.{IsReduced};
 ghost use Rattle.mm_space.specs.KeyValue.{KeyValue, HaveSameVectors, IsKeyOf, number_onto, digit_at, code_of, joined_rows};
@@ -196,8 +196,8 @@ fn with_row(packed: u128, t: usize, row: &Row) -> u128
 fn with_rows(t: usize, rows: &Rows) -> (u128, u8)
     requires narrow { t ≤ 6 }
     requires digits { All (λ row. All (λ d. d < 8) row) rows.now }
-    ensures packed { result.0 ≡ number_onto 0 (joined_rows (turned_rows (corner t rows.now) t)) }
-    ensures rank { result.1 ≡ length (turned_rows (corner t rows.now) t) }
+    ensures packed { result.0 ≡ number_onto 0 (joined_rows (reversed_rows (corner t rows.now) t)) }
+    ensures rank { result.1 ≡ length (reversed_rows (corner t rows.now) t) }
     ensures few { result.1 ≤ t }
     ensures room { result.0 < 2 ^ 108 }
 {

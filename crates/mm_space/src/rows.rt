@@ -10,7 +10,7 @@ ghost use Rattle.mm_field.specs.Digits.{order};
 ghost use Rattle.mm_field.specs.Vectors.{IsVector, AreVectors, InSpan, SameRowSpace, zeros};
 ghost use Rattle.mm_linear.specs.Echelons.{IsEchelon, EndsAt, ZeroFrom};
 ghost use Rattle.mm_linear.specs.Eliminate.{residue, cleared};
-ghost use Rattle.mm_linear.specs.Meets.{Meet};
+ghost use Rattle.mm_linear.specs.Meets.{MeetTrivially};
 ghost use Rattle.mm_space.specs.Insertion.{IsHeld, IsInserted};
 
 use crate::WIDTH;
@@ -139,7 +139,7 @@ pub(crate) fn insert_all(f: Field, r: usize, rows: &mut Rows, more: &Rows)
 pub(crate) fn meet_in_zero(f: Field, r: usize, rows: &Rows, more: &Rows) -> bool
     requires rows_held { IsHeld f 24 r rows.now }
     requires more_held { IsHeld f 24 r more.now }
-    ensures { IsTrue result ↔ Meet f 24 rows.now more.now }
+    ensures { IsTrue result ↔ MeetTrivially 24 (InSpan f 24 rows.now) (InSpan f 24 more.now) }
 {
     let mut all = *rows;
     for i in (0..r).rev() {

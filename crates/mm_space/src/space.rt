@@ -3,9 +3,9 @@
 
 ghost use Rattle.std.specs.Prelude.{◌≡◌, ◌<◌, ◌≤◌, ◌↔◌, ◌++◌, ◌∷◌, [], ℕ, List, IsTrue, length, map, IfSome};
 ghost use Rattle.std.specs.List.{range_with_len};
-ghost use Rattle.mm_field.specs.Vectors.{AreDigits, AreVectors, through};
+ghost use Rattle.mm_field.specs.Vectors.{AreDigits, AreVectors, InSpan, times_matrix};
 ghost use Rattle.mm_linear.specs.Joins.{InSum};
-ghost use Rattle.mm_linear.specs.Meets.{Meet};
+ghost use Rattle.mm_linear.specs.Meets.{MeetTrivially};
 ghost use Rattle.mm_linear.specs.Coordinates.{unit};
 ghost use Rattle.mm_space.specs.Preimages.{IsHead, IsPreimage};
 ghost use Rattle.mm_space.specs.SpaceValue.{SpaceValue, IsIn, IsImage, IsSpanOf, HaveSameVectors};
@@ -101,7 +101,7 @@ impl Space {
     pub fn meets_only_in_zero(&self, other: &Space) -> bool
         requires field { other.now.f ≡ self.now.f }
         requires length { other.now.r ≡ self.now.r }
-        ensures { IsTrue result ↔ Meet self.now.f self.now.r self.now.rows other.now.rows }
+        ensures { IsTrue result ↔ MeetTrivially self.now.r (InSpan self.now.f self.now.r self.now.rows) (InSpan self.now.f self.now.r other.now.rows) }
     {
         meet_in_zero(self.field, self.r as usize, &self.rows, &other.rows)
     }
@@ -112,7 +112,7 @@ impl Space {
         requires field { key.now.f ≡ f }
         requires count { length g.now ≡ key.now.t }
         requires rows { AreVectors f r g.now }
-        ensures span { IsSpanOf f r (map (through f r g.now) key.now.rows) result }
+        ensures span { IsSpanOf f r (map (times_matrix f r g.now) key.now.rows) result }
         ensures images { (z : List ℕ) → IsIn result z ↔ IsImage f key.now.t r key.now.rows g.now z }
     {
         let mut space = Space {

@@ -32,8 +32,8 @@ fn change<'a>(number: usize, changes: &'a str) -> Option<&'a str> {
     None
 }
 
-/// The lines of a job, some exchanged, and more text behind them.
-pub fn changed(alloc: Global, job: &str, changes: &str, behind: &str) -> Result<Vec<u8>, Fail> {
+/// The lines of a job, some exchanged, and more text after them.
+pub fn changed(alloc: Global, job: &str, changes: &str, after: &str) -> Result<Vec<u8>, Fail> {
     let mut text = Vec::new(alloc);
     let mut number = 0usize;
     for line in job.lines() {
@@ -44,6 +44,6 @@ pub fn changed(alloc: Global, job: &str, changes: &str, behind: &str) -> Result<
             text.push(b'\n')?;
         }
     }
-    text.extend_from_slice(behind.as_bytes())?;
+    text.extend_from_slice(after.as_bytes())?;
     Ok(text)
 }

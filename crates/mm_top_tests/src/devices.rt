@@ -4,7 +4,7 @@ use crate::running::call_once;
 use mm_base::{MemorySink, MemorySource, Status, SureSink, SureSource};
 use std::test::Fail;
 
-/// A `check` behind the circuit, which answers `same`.
+/// A `check` after the circuit, which answers `same`.
 const CHECK: &str = "check\nelements a b c\nrow 101\nrow 011\nend\n";
 
 #[test]

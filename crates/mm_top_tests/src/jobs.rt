@@ -3,7 +3,7 @@ use crate::changes::{CIRCUIT, changed};
 use crate::running::gives;
 use std::test::Fail;
 
-/// A job: the lines of the circuit that are exchanged (`N LINE`, or `N` alone for no line), what stands behind it, what is written,
+/// A job: the lines of the circuit that are exchanged (`N LINE`, or `N` alone for no line), what stands after it, what is written,
 /// and the status.
 const CHANGES: [(&str, &str, &str, u8); 33] = [
     ("", "", "false\n", 0),
@@ -74,11 +74,11 @@ const CHANGES: [(&str, &str, &str, u8); 33] = [
 #[test]
 fn changed_lines_give_their_answers(rt: HostRuntime) -> Result<(), Fail> {
     let alloc = rt.alloc();
-    for (lines, behind, output, status) in CHANGES {
-        let text = changed(alloc, CIRCUIT, lines, behind)?;
+    for (lines, after, output, status) in CHANGES {
+        let text = changed(alloc, CIRCUIT, lines, after)?;
         for piece in [4096usize, 1, 7] {
             let same = gives(alloc, "run", &text, piece.max(1), output, status)?;
-            assert!(rt; same, "{lines} and {behind}, in pieces of {piece}");
+            assert!(rt; same, "{lines} and {after}, in pieces of {piece}");
         }
     }
     Ok(())

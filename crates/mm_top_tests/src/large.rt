@@ -4,7 +4,7 @@ use crate::running::gives;
 use std::alloc::Global;
 use std::test::Fail;
 
-/// Puts a byte so many times behind a text.
+/// Puts a byte so many times after a text.
 fn fill(text: &mut Vec<u8>, byte: u8, count: usize) -> Result<(), Fail> {
     for _ in 0..count {
         text.push(byte)?;
@@ -13,12 +13,12 @@ fn fill(text: &mut Vec<u8>, byte: u8, count: usize) -> Result<(), Fail> {
 }
 
 /// The circuit, and a line of so many bytes that begins with `first` and goes on with `a`.
-fn with_line(alloc: Global, first: u8, length: usize, behind: &str) -> Result<Vec<u8>, Fail> {
+fn with_line(alloc: Global, first: u8, length: usize, after: &str) -> Result<Vec<u8>, Fail> {
     let mut text = changed(alloc, CIRCUIT, "", "")?;
     text.push(first)?;
     fill(&mut text, b'a', length.saturating_sub(1))?;
     text.push(b'\n')?;
-    text.extend_from_slice(behind.as_bytes())?;
+    text.extend_from_slice(after.as_bytes())?;
     Ok(text)
 }
 
@@ -99,7 +99,7 @@ fn twos(k: usize) -> u32 {
     k.trailing_zeros()
 }
 
-/// A job whose tree is balanced: behind leaf k stand as many joins as 2 divides k.
+/// A job whose tree is balanced: after leaf k stand as many joins as 2 divides k.
 fn balanced(alloc: Global, names: usize, leaves: usize) -> Result<Vec<u8>, Fail> {
     let mut text = head(alloc, names)?;
     for k in 1..=leaves {

@@ -1,9 +1,9 @@
 pub mod Walks
-pub mod TextLaws
-pub mod NameLaws
-pub mod WayLaws
-pub mod StepLaws
-pub mod PlaceLaws
-pub mod TreeLaws
-pub mod BuilderLaws
-pub mod ReplaceLaws
+pub mod TextLemmas
+pub mod NameLemmas
+pub mod PathLemmas
+pub mod StepLemmas
+pub mod PlaceLemmas
+pub mod TreeLemmas
+pub mod BuilderLemmas
+pub mod ReplaceLemmas

@@ -10,11 +10,11 @@ use Rattle.mm_tree.specs.Nodes.{named, named_leaf, IsOver}
 use Rattle.mm_tree.specs.ValidTree.{AreNames, most_leaves, most_depth, most_weight}
 use Rattle.mm_tree.specs.declared.node.Leaf.{Leaf}
 use Rattle.mm_tree.specs.declared.node.Node as nodes_of
-use Rattle.mm_tree.specs.declared.builder.Grown.{Grown}
+use Rattle.mm_tree.specs.declared.builder.StackEntry.{StackEntry}
 use Rattle.mm_tree.specs.declared.builder.Builder.TheInside.{Inside}
 
 -- a node that stands for a valid tree, but for the number of its leaves and that their names differ, and the depth of this tree
-pub record IsGrown (f : Field) (g : Grown) : Type 0 where
+pub record IsStackEntry (f : Field) (g : StackEntry) : Type 0 where
   pub over : IsOver f g.node.value
   pub valid_shape : IsValid f (shape (named g.node.value))
   pub formed : AreNames (node_names (named g.node.value))
@@ -28,18 +28,18 @@ pub record IsGoodLeaf (f : Field) (l : Leaf) : Type 0 where
   pub valid_shape : IsValid f (shape (named_leaf l))
   pub light : All (λ w. nat_abs w ≤ most_weight) (weights (named_leaf l))
 
-abbrev pub tree_of : Grown → Tree
+abbrev pub tree_of : StackEntry → Tree
 tree_of g = named g.node.value
 
 -- the trees of a stack that grows at its end, the last one first
-abbrev pub trees_of : List Grown → List Tree
+abbrev pub trees_of : List StackEntry → List Tree
 trees_of items = reverse (map tree_of items)
 
 abbrev pub value_of : Inside → BuilderValue
 value_of s = record { f = s.field; trees = trees_of s.trees.items }
 
 pub record IsKept (s : Inside) : Type 0 where
-  pub each : All (λ g. IsGrown s.field g) s.trees.items
+  pub each : All (λ g. IsStackEntry s.field g) s.trees.items
   pub names : s.names.keys ≡ names_in (trees_of s.trees.items)
   pub different : IsDistinct bytes_eq s.names.keys
   pub few : length s.names.keys ≤ most_leaves

@@ -5,7 +5,7 @@ use Rattle.std.specs.Coded.{Coded, code_by, coded×, coded_list}
 use Rattle.std.specs.declared.result.Result.{Result}
 use Rattle.mm_field.specs.declared.Field.{Field}
 use Rattle.mm_ops.specs.OpValue.{OpValue}
-use Rattle.mm_ops.specs.Tables.{Named}
+use Rattle.mm_ops.specs.Tables.{OperatorList}
 use Rattle.mm_tree.specs.NamedTree.{Tree, boundary, leaf_names, depth, is_one_of}
 use Rattle.mm_tree.specs.NamedTree.Tree.{Join}
 use Rattle.mm_tree.specs.TreeCode.{tree_code}
@@ -29,7 +29,7 @@ names_in [] = []
 names_in (tree ∷ trees) = names_in trees ++ leaf_names tree
 
 -- The operators are over the field.
-abbrev pub AreOver : Field → Named → Type 0
+abbrev pub AreOver : Field → OperatorList → Type 0
 AreOver f [] = Unit {0}
 AreOver f (entry ∷ entries) = (entry.1.f ≡ f) × AreOver f entries
 

@@ -1,5 +1,5 @@
 pub mod NamedTree
-pub mod Ways
+pub mod Paths
 pub mod ValidTree
 pub mod TreeCode
 pub mod TreeValue

@@ -3,7 +3,7 @@ use Rattle.std.specs.Prelude.{ℕ, ◌==◌, not, List, [], ◌∷◌, length, O
 use Rattle.std.specs.declared.result.Result.{Result}
 use Rattle.mm_tree.specs.NamedTree.{Tree, boundary, leaf_names, depth, is_one_of}
 use Rattle.mm_tree.specs.ValidTree.{most_leaves, most_depth}
-use Rattle.mm_tree.specs.Ways.{Way, node_at, with_node, names_outside}
+use Rattle.mm_tree.specs.Paths.{Path, node_at, with_node, names_outside}
 use Rattle.mm_tree.specs.declared.replace.ReplaceFault.{ReplaceFault}
 use Rattle.mm_tree.specs.declared.replace.ReplaceFault.TheVariants.{Boundary, NameTaken, TooManyLeaves, TooDeep, NoMemory}
 
@@ -24,10 +24,10 @@ name_fault (Some name) other = Some (NameTaken name)
 
 -- Why a tree may not take the place of the node at the end of a way, the first that applies: their boundaries differ; a leaf outside
 -- the node has the name of a leaf of the new tree; the tree would have too many leaves; or a leaf of it would be too deep.
-unfoldable pub replace_fault : Tree → Way → Tree → Option ReplaceFault
-replace_fault tree way new =
-    if not (boundary (node_at tree way) == boundary new) then Some (Boundary (boundary (node_at tree way)) (boundary new)) else
-    name_fault (first_taken (names_outside tree way) (leaf_names new)) (size_fault (with_node tree way new))
+unfoldable pub replace_fault : Tree → Path → Tree → Option ReplaceFault
+replace_fault tree path new =
+    if not (boundary (node_at tree path) == boundary new) then Some (Boundary (boundary (node_at tree path)) (boundary new)) else
+    name_fault (first_taken (names_outside tree path) (leaf_names new)) (size_fault (with_node tree path new))
 
 -- What a call that may take a tree in the place of a node answers; memory may be missing at any time.
 abbrev pub Answers : Result (Unit {0}) ReplaceFault → Option ReplaceFault → Type 0

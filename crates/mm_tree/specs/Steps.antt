@@ -3,8 +3,8 @@ use Rattle.std.specs.Prelude.{ℕ, ℤ, Bool, false, ◌≡◌, ◌<◌, ◌≤�
 use Rattle.mm_field.specs.declared.Field.{Field}
 use Rattle.mm_tree.specs.NamedTree.{Tree, boundary, element_names, is_one_of, nodes}
 use Rattle.mm_tree.specs.Nodes.{named, field_of, IsOver}
-use Rattle.mm_tree.specs.Places.{way_of}
-use Rattle.mm_tree.specs.Ways.{node_at, with_node, with_first_weight}
+use Rattle.mm_tree.specs.Places.{path_of}
+use Rattle.mm_tree.specs.Paths.{node_at, with_node, with_first_weight}
 use Rattle.mm_tree.specs.declared.node.Node.{Node}
 use Rattle.mm_tree.specs.declared.place.Place.{Place}
 use Rattle.mm_tree.specs.declared.place.Reached.{Reached}
@@ -34,16 +34,16 @@ pub record IsReweighted (name : List ℕ) (weight : ℤ) (old new : Node) (found
   pub field : field_of new ≡ field_of old
   pub kept : found ≡ false → new ≡ old
 
--- The boundary of the node of a number, or how much of the number is left behind the tree.
+-- The boundary of the node of a number, or how much of the number is left after the tree.
 abbrev pub IsSought : Tree → ℕ → Sought → Type 0
-IsSought tree at (Here t) = (at < nodes tree) × (t ≡ boundary (node_at tree (way_of at tree)))
+IsSought tree at (Here t) = (at < nodes tree) × (t ≡ boundary (node_at tree (path_of at tree)))
 IsSought tree at (Beyond rest) = at ≡ nodes tree + rest
 
 -- The node of a number was exchanged for another one.
 pub record IsExchanged (old now : Node) (at : ℕ) (new out : Node) : Type 0 where
   pub within : at < nodes (named old)
-  pub old_part : named out ≡ node_at (named old) (way_of at (named old))
-  pub tree : named now ≡ with_node (named old) (way_of at (named old)) (named new)
+  pub old_part : named out ≡ node_at (named old) (path_of at (named old))
+  pub tree : named now ≡ with_node (named old) (path_of at (named old)) (named new)
   pub over : (f : Field) → IsOver f old → IsOver f new → IsOver f now × IsOver f out
 
 -- Where the number is beyond the tree, the new node comes back with what is left of the number.

@@ -1,5 +1,5 @@
 -- How a tree is written. What such lines say is the reading of a tree's lines, which stands where the lines of a job are read, in
--- mm_words/specs/TreeLines: there they are read back as the same tree.
+-- mm_job_text/specs/TreeLines: there they are read back as the same tree.
 use Rattle.std.specs.Prelude.{ℕ, ℤ, List, [], ◌∷◌, ◌++◌, codes}
 use Rattle.std.specs.Fmt.{decimal, signed_decimal}
 use Rattle.std.specs.List.{join_with_byte}

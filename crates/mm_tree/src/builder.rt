@@ -50,7 +50,7 @@ pub enum BuildFault {
 
 /// A tree that is not joined yet, and its depth.
 #[derive(Drop)]
-pub(crate) struct Grown {
+pub(crate) struct StackEntry {
     node: Box<Node>,
     depth: u32,
 }
@@ -59,7 +59,7 @@ pub(crate) struct Grown {
 #[derive(Drop)]
 pub struct Builder {
     field: Field,
-    trees: Vec<Grown>,
+    trees: Vec<StackEntry>,
     names: IndexSet<Name>,
 }
 
@@ -143,7 +143,7 @@ impl Builder {
         let Ok(node) = Box::new(alloc, Node::Leaf(leaf)) else {
             return Err(BuildFault::NoMemory);
         };
-        if self.trees.push(Grown { node, depth: 0 }).is_err() {
+        if self.trees.push(StackEntry { node, depth: 0 }).is_err() {
             return Err(BuildFault::NoMemory);
         }
         if self.names.insert(leaf.name).is_err() {
@@ -208,7 +208,7 @@ impl Builder {
         };
         let depth = left.depth.max(right.depth) + 1;
         *node = Node::Join(name, op, left.node, right.node);
-        if self.trees.push(Grown { node, depth }).is_err() {
+        if self.trees.push(StackEntry { node, depth }).is_err() {
             return Err(BuildFault::NoMemory);
         }
         Ok(())
@@ -246,7 +246,7 @@ impl Builder {
 }
 
 /// Why an operator does not join two trees.
-fn pair_fault(op: &Op, left: &Grown, right: &Grown) -> Option<BuildFault>
+fn pair_fault(op: &Op, left: &StackEntry, right: &StackEntry) -> Option<BuildFault>
     requires left { left.now.depth ≡ depth (tree_of left.now) }
     requires right { right.now.depth ≡ depth (tree_of right.now) }
     ensures { result ≡ pair_fault op.now (tree_of left.now) (tree_of right.now) }

@@ -5,7 +5,7 @@ ghost use Rattle.mm_tree.specs.NamedTree.{depth, nodes};
 ghost use Rattle.mm_tree.specs.Nodes.{named};
 ghost use Rattle.mm_tree.specs.Places.{IsReached};
 ghost use Rattle.mm_tree.specs.Steps.{IsClimbed, IsCounted};
-ghost use Rattle.mm_tree.specs.Ways.{way_to};
+ghost use Rattle.mm_tree.specs.Paths.{path_to};
 
 use crate::Node;
 use crate::walk::is_named;
@@ -60,7 +60,7 @@ pub(crate) fn search(node: &Node, here: Place, name: &Name, up: u32) -> Reached
     requires numbers { here.number + nodes (named node.now) ≤ 16383 }
     requires deep { here.depth + depth (named node.now) ≤ 1023 }
     ensures counted { IsCounted (nodes (named node.now)) result }
-    ensures reached { IsReached (named node.now) here up (way_to name.now (named node.now)) result }
+    ensures reached { IsReached (named node.now) here up (path_to name.now (named node.now)) result }
 {
     match node {
         Node::Leaf(leaf) => {

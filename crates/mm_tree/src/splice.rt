@@ -11,7 +11,7 @@ use crate::walk::boundary;
 pub(crate) enum Sought {
     /// The boundary of the node of this number.
     Here(u8),
-    /// How much of the number is left behind the node.
+    /// How much of the number is left after the node.
     Beyond(u32),
 }
 

@@ -89,7 +89,7 @@ fn table(alloc: Global) -> Option<OpTable>
     Some(ops)
 }
 
-/// Puts an element of the boundary 1 and the weight 5 behind those that are there.
+/// Puts an element of the boundary 1 and the weight 5 after those that are there.
 fn add(alloc: Global, builder: &mut Builder, name: &[u8]) -> Option<()>
     requires { builder.old.f ≡ Two }
     ensures { builder.new.f ≡ Two }

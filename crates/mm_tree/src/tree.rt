@@ -3,10 +3,10 @@
 ghost use Rattle.std.specs.Prelude.{◌≡◌, ◌≤◌, ℕ, nat_abs, Some, None, IfSome, IfOk, IsTrue};
 ghost use Rattle.mm_tree.specs.NamedTree.{boundary, depth, nodes, leaf_names, element_names, is_one_of};
 ghost use Rattle.mm_tree.specs.Nodes.{named, IsOver};
-ghost use Rattle.mm_tree.specs.Places.{IsPlaceOf, way_above, way_of, place_at_end};
+ghost use Rattle.mm_tree.specs.Places.{IsPlaceOf, path_above, path_of, place_at_end};
 ghost use Rattle.mm_tree.specs.Replacing.{Answers, replace_fault};
 ghost use Rattle.mm_tree.specs.ValidTree.{IsValidTree, most_weight};
-ghost use Rattle.mm_tree.specs.Ways.{node_at, with_node, with_weight};
+ghost use Rattle.mm_tree.specs.Paths.{node_at, with_node, with_weight};
 ghost use Rattle.mm_tree.specs.Weights.{weight_named};
 
 use crate::place::{Reached, search};
@@ -112,7 +112,7 @@ impl Tree {
 
     /// The place of the node `up` steps above the leaf of a name. None exactly where no leaf has the name or its depth is below `up`.
     pub fn place(&self, name: &Name, up: u32) -> Option<Place>
-        ensures found { result ≡ place_at_end self.now.tree (way_above name.now up self.now.tree) }
+        ensures found { result ≡ place_at_end self.now.tree (path_above name.now up self.now.tree) }
         ensures within { IfSome result (λ place. IsPlaceOf self.now.tree place) }
     {
         match search(&self.node, Place::root(), name, up) {
@@ -125,7 +125,7 @@ impl Tree {
     /// The boundary of the node at a place.
     pub fn boundary_at(&self, place: &Place) -> u8
         requires { IsPlaceOf self.now.tree place.now }
-        ensures { result ≡ boundary (node_at self.now.tree (way_of place.now.number self.now.tree)) }
+        ensures { result ≡ boundary (node_at self.now.tree (path_of place.now.number self.now.tree)) }
     {
         match splice::boundary_at(&self.node, place.number()) {
             Sought::Here(t) => t,
@@ -141,7 +141,7 @@ impl Tree {
         new: &Tree,
     ) -> Result<(), ReplaceFault>
         requires { IsPlaceOf self.now.tree place.now }
-        ensures { Answers result (replace_fault self.now.tree (way_of place.now.number self.now.tree) new.now.tree) }
+        ensures { Answers result (replace_fault self.now.tree (path_of place.now.number self.now.tree) new.now.tree) }
     {
         let (old, given) = (self.boundary_at(place), new.boundary());
         if old != given {
@@ -169,11 +169,11 @@ impl Tree {
     pub fn splice(&mut self, place: &Place, new: Tree) -> Tree
         requires place { IsPlaceOf self.old.tree place.now }
         requires field { new.f ≡ self.old.f }
-        requires fits { replace_fault self.old.tree (way_of place.now.number self.old.tree) new.tree ≡ None }
+        requires fits { replace_fault self.old.tree (path_of place.now.number self.old.tree) new.tree ≡ None }
         ensures field { self.new.f ≡ self.old.f }
-        ensures tree { self.new.tree ≡ with_node self.old.tree (way_of place.now.number self.old.tree) new.tree }
+        ensures tree { self.new.tree ≡ with_node self.old.tree (path_of place.now.number self.old.tree) new.tree }
         ensures old_field { result.f ≡ self.old.f }
-        ensures old_tree { result.tree ≡ node_at self.old.tree (way_of place.now.number self.old.tree) }
+        ensures old_tree { result.tree ≡ node_at self.old.tree (path_of place.now.number self.old.tree) }
     {
         match splice::splice(&mut self.node, place.number(), new.node) {
             Spliced::Done(node) | Spliced::NotHere(node, _) => Tree { node },

@@ -73,7 +73,7 @@ pub(crate) fn nodes(node: &Node) -> u32
 }
 
 /// Whether the leaf has the name.
-#[tactic(auto, using(mm_base::proofs::NameLaws::name_eq))]
+#[tactic(auto, using(mm_base::proofs::NameLemmas::name_eq))]
 pub(crate) fn is_named(leaf: &Leaf, name: &Name) -> bool
     ensures { result ≡ bytes_eq name.now leaf.now.name }
 {

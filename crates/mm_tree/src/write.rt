@@ -10,7 +10,7 @@ use mm_base::{Name, NoMemory, Text};
 use mm_space::Vector;
 use std::alloc::Global;
 
-/// The lines of a tree: each join after the lines of its left and then of its right subtree, and `end` behind them. Words stand
+/// The lines of a tree: each join after the lines of its left and then of its right subtree, and `end` after them. Words stand
 /// with single blanks, numbers in shortest decimal form, and an empty vector is `-`.
 pub fn write_tree(alloc: Global, tree: &Tree) -> Result<Text, NoMemory>
     ensures { IfOk result (λ text. text ≡ tree_text tree.now.tree) }

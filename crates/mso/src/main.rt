@@ -39,7 +39,7 @@ fn run_once<S: Source, K: Sink>(
     run::<S, K, Brand>(alloc, words, source, sink, Blank::new(1))
 }
 
-/// The words behind the program's name. Words that are no text ask for nothing, as no words do.
+/// The words after the program's name. Words that are no text ask for nothing, as no words do.
 fn words_of(rt: &HostRuntime) -> Result<Vec<String>, NoMemory> {
     let mut words = Vec::new(rt.alloc());
     let all = match env::args(rt) {

@@ -1,6 +1,6 @@
 use Rattle.std.proofs.Common.{sym, subst}
 use Rattle.mm_cli.specs.Runs.{Ran}
-use Rattle.mm_cli.proofs.RunLaws.{finished, unfinished}
+use Rattle.mm_cli.proofs.RunLemmas.{finished, unfinished}
 use Rattle.mm_cli.proofs.reading.answer.Goals as goal
 
 pub returns-in-Ok-clause-run : goal.returns-in-Ok-clause-run

@@ -5,8 +5,8 @@ use Rattle.mm_base.specs.declared.status.Status.TheVariants as ends
 use Rattle.mm_job.specs.Jobs.{with_piece}
 use Rattle.mm_cli.specs.Runs.{Ran}
 use Rattle.mm_cli.specs.Going.{SoFar}
-use Rattle.mm_cli.proofs.StepLaws.{stop_is, more_is, more_ok, more_goes_on}
-use Rattle.mm_cli.proofs.RunLaws.{not_a_fault, ran_read_fault, further, ran_ended, ran_stopped, whole_piece}
+use Rattle.mm_cli.proofs.StepLemmas.{stop_is, more_is, more_ok, more_goes_on}
+use Rattle.mm_cli.proofs.RunLemmas.{not_a_fault, ran_read_fault, further, ran_ended, ran_stopped, whole_piece}
 use Rattle.mm_cli.proofs.reading.read_piece.Goals as goal
 
 pub returns-in_default-clause-stop : goal.returns-in_default-clause-stop

@@ -1,7 +1,7 @@
 use Rattle.std.proofs.Common.{length, sym, ap, subst, arith, refl}
 use Rattle.mm_cli.specs.Going.{SoFar}
 use Rattle.mm_cli.specs.Runs.{Ran}
-use Rattle.mm_cli.proofs.RunLaws.{at_first}
+use Rattle.mm_cli.proofs.RunLemmas.{at_first}
 use Rattle.mm_cli.proofs.reading.read_pieces.Goals as goal
 
 pub pieces-init : goal.pieces-init

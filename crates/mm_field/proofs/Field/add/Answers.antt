@@ -1,4 +1,4 @@
-use Rattle.mm_field.proofs.TableLaws.{sums_hold}
+use Rattle.mm_field.proofs.TableLemmas.{sums_hold}
 use Rattle.mm_field.proofs.Field.add.Goals as goal
 
 pub returns-clause-sum : goal.returns-clause-sum

@@ -1,4 +1,4 @@
-use Rattle.mm_field.proofs.TableLaws.{inverses_hold}
+use Rattle.mm_field.proofs.TableLemmas.{inverses_hold}
 use Rattle.mm_field.proofs.Field.inv.Goals as goal
 
 pub returns-clause-inverse : goal.returns-clause-inverse

@@ -1,4 +1,4 @@
-use Rattle.mm_field.proofs.TableLaws.{products_hold}
+use Rattle.mm_field.proofs.TableLemmas.{products_hold}
 use Rattle.mm_field.proofs.Field.mul.Goals as goal
 
 pub returns-clause-product : goal.returns-clause-product

@@ -1,4 +1,4 @@
-use Rattle.mm_field.proofs.TableLaws.{negatives_hold}
+use Rattle.mm_field.proofs.TableLemmas.{negatives_hold}
 use Rattle.mm_field.proofs.Field.neg.Goals as goal
 
 pub returns-clause-negative : goal.returns-clause-negative

@@ -1,6 +1,6 @@
 use Rattle.std.proofs.Common.{arith}
 use Rattle.mm_field.specs.declared.Field.TheVariants.{Two}
-use Rattle.mm_field.proofs.VectorLaws.{axpy_from_entries}
+use Rattle.mm_field.proofs.VectorLemmas.{axpy_from_entries}
 use Rattle.mm_field.proofs.lanes.add_two.Goals as goal
 
 pub returns : goal.returns

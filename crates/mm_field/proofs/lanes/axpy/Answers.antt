@@ -1,4 +1,4 @@
-use Rattle.mm_field.proofs.VectorLaws.{add_no_multiple}
+use Rattle.mm_field.proofs.VectorLemmas.{add_no_multiple}
 use Rattle.mm_field.proofs.lanes.axpy.Goals as goal
 
 pub returns-then-c-eq0 : goal.returns-then-c-eq0

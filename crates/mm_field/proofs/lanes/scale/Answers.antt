@@ -1,5 +1,5 @@
 use Rattle.std.proofs.Common.{arith, sym, ap, ◌∙◌}
-use Rattle.mm_field.proofs.VectorLaws.{multiple_from_entries, one-multiple}
+use Rattle.mm_field.proofs.VectorLemmas.{multiple_from_entries, one-multiple}
 use Rattle.mm_field.specs.Vectors.{multiple}
 use Rattle.mm_field.proofs.lanes.scale.Goals as goal
 

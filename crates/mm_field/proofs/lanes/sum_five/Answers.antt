@@ -1,4 +1,4 @@
-use Rattle.mm_field.proofs.StepLaws.{five_step}
+use Rattle.mm_field.proofs.StepLemmas.{five_step}
 use Rattle.mm_field.proofs.lanes.sum_five.Goals as goal
 
 pub returns : goal.returns

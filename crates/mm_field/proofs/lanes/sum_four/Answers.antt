@@ -1,4 +1,4 @@
-use Rattle.mm_field.proofs.StepLaws.{four_step}
+use Rattle.mm_field.proofs.StepLemmas.{four_step}
 use Rattle.mm_field.proofs.lanes.sum_four.Goals as goal
 
 pub returns : goal.returns

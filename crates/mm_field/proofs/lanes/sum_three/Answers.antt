@@ -1,4 +1,4 @@
-use Rattle.mm_field.proofs.StepLaws.{three_step}
+use Rattle.mm_field.proofs.StepLemmas.{three_step}
 use Rattle.mm_field.proofs.lanes.sum_three.Goals as goal
 
 pub returns : goal.returns

@@ -1,4 +1,4 @@
-use Rattle.mm_field.proofs.StepLaws.{two_step}
+use Rattle.mm_field.proofs.StepLemmas.{two_step}
 use Rattle.mm_field.proofs.lanes.sum_two.Goals as goal
 
 pub returns : goal.returns

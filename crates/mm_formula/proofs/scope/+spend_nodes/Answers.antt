@@ -1,4 +1,4 @@
-use Rattle.mm_formula.proofs.ScopeLaws.{no_room}
+use Rattle.mm_formula.proofs.ScopeLemmas.{no_room}
 use Rattle.mm_formula.specs.Syntax.{syntax_of}
 use Rattle.mm_formula.proofs.scope.+spend_nodes.Goals as goal
 

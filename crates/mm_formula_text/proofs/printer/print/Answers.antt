@@ -2,7 +2,7 @@ use Rattle.std.proofs.Common.{◌≡◌, ◌++◌, ◌∙◌, ap, subst, sym, Li
 use Rattle.mm_formula.specs.Syntax.{syntax_of}
 use Rattle.mm_formula_text.specs.Grammar.{IsTextOf}
 use Rattle.mm_formula_text.specs.Canonical.{canonical}
-use Rattle.mm_formula_text.proofs.CanonicalLaws.{canonical_derives}
+use Rattle.mm_formula_text.proofs.CanonicalLemmas.{canonical_derives}
 use Rattle.mm_formula_text.proofs.printer.print.Goals as goal
 
 pub returns-clause-derived : goal.returns-clause-derived

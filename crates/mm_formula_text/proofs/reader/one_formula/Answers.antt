@@ -1,4 +1,4 @@
-use Rattle.mm_formula_text.proofs.TextLaws.{one}
+use Rattle.mm_formula_text.proofs.TextLemmas.{one}
 use Rattle.mm_formula_text.proofs.reader.one_formula.Goals as goal
 
 pub returns : goal.returns

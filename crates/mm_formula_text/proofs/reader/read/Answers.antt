@@ -1,5 +1,5 @@
 use Rattle.std.proofs.Common.{◌∙◌, sym}
-use Rattle.mm_formula_text.proofs.TextLaws.{Right, right}
+use Rattle.mm_formula_text.proofs.TextLemmas.{Right, right}
 use Rattle.mm_formula_text.proofs.reader.read.Goals as goal
 use Rattle.mm_formula_text.proofs.reader.read.Goals.{After-parse}
 

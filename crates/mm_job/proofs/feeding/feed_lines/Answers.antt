@@ -1,12 +1,12 @@
 use Rattle.std.proofs.Common.{◌∙◌, refl, arith}
 use Rattle.mm_job.specs.Feeding.{left}
-use Rattle.mm_job.proofs.FeedLaws.{fed_nothing, fed_trans, front_behind, on_err}
+use Rattle.mm_job.proofs.FeedLemmas.{fed_nothing, fed_trans, front_then, on_err}
 use Rattle.mm_job.proofs.feeding.feed_lines.Goals as goal
 
 pub lines-init : goal.lines-init
 lines-init g c = record {
   kept = c.requires.kept;
-  fed = fed_nothing c.args.limit c.args.course (left c.args.framer.now) (g.K.Sink.held c.args.out.now);
+  fed = fed_nothing c.args.limit c.args.state (left c.args.framer.now) (g.K.Sink.held c.args.out.now);
   later = omega arith;
   within = c.requires.within;
   bytes = refl;
@@ -17,7 +17,7 @@ lines-init g c = record {
 pub returns-then-not-more-clause-fed : goal.returns-then-not-more-clause-fed
 returns-then-not-more-clause-fed g c =
     let held = g.K.Sink.held in
-    fed_trans c.args.limit c.args.course c.lines.course c.in_ok-after.field-0.course (left c.args.framer.now) (left c.lines.framer) (left c.take_next.new.framer)
+    fed_trans c.args.limit c.args.state c.lines.state c.in_ok-after.field-0.state (left c.args.framer.now) (left c.lines.framer) (left c.take_next.new.framer)
     (held c.args.out.now) (held c.lines.out) (held c.take_next.new.out) c.lines.invariant.fed c.in_ok-after.ensures.fed
 
 pub lines-preserved : goal.lines-preserved
@@ -25,7 +25,7 @@ lines-preserved g c =
     let held = g.K.Sink.held in
     record {
       kept = c.in_ok-after.ensures.kept;
-      fed = fed_trans c.args.limit c.args.course c.lines.course c.in_ok-after.field-0.course (left c.args.framer.now) (left c.lines.framer) (left c.take_next.new.framer)
+      fed = fed_trans c.args.limit c.args.state c.lines.state c.in_ok-after.field-0.state (left c.args.framer.now) (left c.lines.framer) (left c.take_next.new.framer)
           (held c.args.out.now) (held c.lines.out) (held c.take_next.new.out) c.lines.invariant.fed c.in_ok-after.ensures.fed;
       later = omega (arith, c.lines.invariant.later, c.in_ok-after.ensures.cause.later);
       within = c.in_ok-after.ensures.within;
@@ -37,5 +37,5 @@ pub returns-in_err-after-clause-front : goal.returns-in_err-after-clause-front
 returns-in_err-after-clause-front g c =
     let held = g.K.Sink.held in
     on_err c.from_residual.result
-    (front_behind c.args.limit c.args.course c.lines.course (left c.args.framer.now) (left c.lines.framer) (held c.args.out.now) (held c.lines.out) (held c.take_next.new.out)
+    (front_then c.args.limit c.args.state c.lines.state (left c.args.framer.now) (left c.lines.framer) (held c.args.out.now) (held c.lines.out) (held c.take_next.new.out)
     c.lines.invariant.fed c.in_err-after.ensures.front)

@@ -5,8 +5,8 @@ use Rattle.mm_job.proofs.feeding.feed_lines.Given as goal
 
 abbrev pub invariant-lines : goal.invariant-lines
 invariant-lines g l = record {
-  kept : IsKeptAt l.course.stage;
-  fed : Fed l.initial.limit l.initial.course l.course (left l.initial.framer) (left l.framer) (g.K.Sink.held l.initial.out) (g.K.Sink.held l.out);
+  kept : IsKeptAt l.state.stage;
+  fed : Fed l.initial.limit l.initial.state l.state (left l.initial.framer) (left l.framer) (g.K.Sink.held l.initial.out) (g.K.Sink.held l.out);
   later : g.K.Sink.faults l.initial.out ≤ g.K.Sink.faults l.out;
   within : IsWithin l.framer;
   bytes : l.framer.bytes ≡ l.initial.framer.bytes;

@@ -1,4 +1,4 @@
-use Rattle.mm_job.proofs.BlockLaws.{names_end, rows_end}
+use Rattle.mm_job.proofs.BlockLemmas.{names_end, rows_end}
 use Rattle.mm_job.proofs.items.close.Goals as goal
 
 pub returns-in-Names : goal.returns-in-Names

@@ -1,6 +1,6 @@
 use Rattle.std.proofs.Common.{sym, ◌∙◌}
 use Rattle.mm_job.specs.Sessions.{session_of}
-use Rattle.mm_job.proofs.BlockLaws.{opened, refused_item}
+use Rattle.mm_job.proofs.BlockLemmas.{opened, refused_item}
 use Rattle.mm_job.proofs.items.take_between.Goals as goal
 
 pub returns-then-opens-clause-begun : goal.returns-then-opens-clause-begun

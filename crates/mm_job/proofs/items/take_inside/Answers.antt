@@ -1,12 +1,12 @@
 use Rattle.std.proofs.Common.{sym, ◌∙◌, refl}
 use Rattle.mm_job.specs.Sessions.{session_of}
-use Rattle.mm_job.proofs.BlockLaws.{ended, inside}
+use Rattle.mm_job.proofs.BlockLemmas.{ended, inside}
 use Rattle.mm_job.proofs.items.take_inside.Goals as goal
 
 pub returns-then-closes-clause-step : goal.returns-then-closes-clause-step
 returns-then-closes-clause-step c = λ e rs.
     let s = session_of c.args.session.now in
-    ended e s c.args.line.now c.args.block c.in_ok-said.said rs (sym c.closes.ensures ∙ c.if-closes.true) c.in_ok-said.ensures
+    ended e s c.args.line.now c.args.block c.in_ok-output_line.output_line rs (sym c.closes.ensures ∙ c.if-closes.true) c.in_ok-output_line.ensures
 
 pub returns-clause-step : goal.returns-clause-step
 returns-clause-step c = λ e rs.

@@ -1,8 +1,8 @@
 use Rattle.std.proofs.Common.{ap}
 use Rattle.mm_formula.specs.Syntax.{syntax_of}
-use Rattle.mm_words.specs.Demands.{found}
-use Rattle.mm_words.specs.declared.refusal.Refusal.TheVariants as refusal
-use Rattle.mm_job.proofs.FormulaLaws.{derived_formula, no_formula_read}
+use Rattle.mm_job_text.specs.Checks.{found}
+use Rattle.mm_job_text.specs.declared.refusal.Refusal.TheVariants as refusal
+use Rattle.mm_job.proofs.FormulaLemmas.{derived_formula, no_formula_read}
 use Rattle.mm_job.proofs.query.read_formula.Goals as goal
 
 pub returns-in-Ok-clause-read : goal.returns-in-Ok-clause-read

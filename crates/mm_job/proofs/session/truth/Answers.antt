@@ -4,7 +4,7 @@ use Rattle.mm_logic.specs.PresentMatrix.{is_independent_set}
 use Rattle.mm_job.specs.Meaning.{everything}
 use Rattle.mm_job.specs.PlainTruth.{speaks_of_all}
 use Rattle.mm_tree.specs.NamedTree.{shape}
-use Rattle.mm_job.proofs.TruthLaws.{truth_without_all}
+use Rattle.mm_job.proofs.TruthLemmas.{truth_without_all}
 use Rattle.mm_job.proofs.session.truth.Goals as goal
 
 pub returns-then-not-speaks_of_all : goal.returns-then-not-speaks_of_all

@@ -1,7 +1,7 @@
 use Rattle.std.proofs.Common.{sym, subst}
 use Rattle.mm_field.specs.declared.Field.{Field}
 use Rattle.mm_field.specs.Vectors.{AreDigits}
-use Rattle.mm_job.proofs.BuildLaws.{element_kept}
+use Rattle.mm_job.proofs.BuildLemmas.{element_kept}
 use Rattle.mm_job.proofs.tree_lines.take_element.Goals as goal
 
 pub elem-requires-clause-digits : goal.elem-requires-clause-digits

@@ -1,6 +1,6 @@
 use Rattle.std.proofs.Common.{false, not, ◌++◌}
 use Rattle.mm_lines.specs.Lines.{is_over, lines, settled}
-use Rattle.mm_lines.proofs.FrontLaws.{settled_stay}
+use Rattle.mm_lines.proofs.FrontLemmas.{settled_stay}
 use Rattle.mm_lines.proofs.laws.settled_lines_stay.Goals as goal
 
 pub returns : goal.returns

@@ -1,5 +1,5 @@
 use Rattle.std.proofs.Common.{◌∙◌, sym}
-use Rattle.mm_lines.proofs.DecimalLaws.{digits_bound}
+use Rattle.mm_lines.proofs.DecimalLemmas.{digits_bound}
 use Rattle.mm_lines.proofs.numbers.number.Goals as goal
 
 pub returns-then-is_number-clause-bound : goal.returns-then-is_number-clause-bound

@@ -1,6 +1,6 @@
 use Rattle.std.proofs.Common.{arith}
 use Rattle.std.proofs.lemmas.Int.Digits.{digits_value_more}
-use Rattle.mm_lines.proofs.DecimalLaws.{digit_is, value_step, value_fits}
+use Rattle.mm_lines.proofs.DecimalLemmas.{digit_is, value_step, value_fits}
 use Rattle.mm_lines.proofs.numbers.value.Goals as goal
 
 pub overflow_mul-n : goal.overflow_mul-n

@@ -5,7 +5,7 @@ use Rattle.std.proofs.lemmas.Bool.{both_ways}
 use Rattle.mm_lines.specs.Lines.{is_too_long, is_passed_over, line_of}
 use Rattle.mm_lines.specs.Places.{Goes}
 use Rattle.mm_lines.specs.declared.place.Place.{Place}
-use Rattle.mm_lines.proofs.PlaceLaws.{goes_same, goes_long, goes_last, none_passing, none_open, begun_one, begun_last, long_is_handed_out}
+use Rattle.mm_lines.proofs.PlaceLemmas.{goes_same, goes_long, goes_last, none_passing, none_open, begun_one, begun_last, long_is_handed_out}
 use Rattle.mm_lines.proofs.place.cut_open.Goals as goal
 use Rattle.mm_lines.proofs.place.cut_open.Goals.{else-ended-via-then-ended+else-place-bytes, else-ended-via-else-ended}
 

@@ -2,7 +2,7 @@ use Rattle.std.proofs.Common.{◌≡◌, ℕ, ◌+◌, ◌-◌, List, length, ge
 use Rattle.std.proofs.lemmas.List.{take_rest, get_or-drop, length-drop}
 use Rattle.mm_lines.specs.Lines.{is_newline}
 use Rattle.mm_lines.specs.Places.{NoNewline}
-use Rattle.mm_lines.proofs.SearchLaws.{searched}
+use Rattle.mm_lines.proofs.SearchLemmas.{searched}
 use Rattle.mm_lines.proofs.place.newline_from.Goals as goal
 
 pub returns-in-Some : goal.returns-in-Some

@@ -1,7 +1,7 @@
 use Rattle.std.proofs.Common.{◌≡◌, ◌∙◌, [], List, sym, subst, arith}
 use Rattle.mm_lines.specs.Places.{Goes, found_in}
 use Rattle.mm_lines.specs.declared.line.Line.{Line}
-use Rattle.mm_lines.proofs.PlaceLaws.{goes_on, nothing_in}
+use Rattle.mm_lines.proofs.PlaceLemmas.{goes_on, nothing_in}
 use Rattle.mm_lines.proofs.place.next_piece.Goals as goal
 
 pub pieces-preserved : goal.pieces-preserved

@@ -1,6 +1,6 @@
 use Rattle.std.proofs.Common.{◌∙◌, sym}
-use Rattle.mm_lines.proofs.TokenLaws.{tokens_step}
-use Rattle.mm_lines.proofs.SkipLaws.{skip_blanks_step}
+use Rattle.mm_lines.proofs.TokenLemmas.{tokens_step}
+use Rattle.mm_lines.proofs.SkipLemmas.{skip_blanks_step}
 use Rattle.mm_lines.proofs.token.skip_blanks.Goals as goal
 
 pub blanks-preserved : goal.blanks-preserved

@@ -1,5 +1,5 @@
 use Rattle.std.proofs.Common.{◌∙◌, sym}
-use Rattle.mm_lines.proofs.SkipLaws.{skip_token_step}
+use Rattle.mm_lines.proofs.SkipLemmas.{skip_token_step}
 use Rattle.mm_lines.proofs.token.skip_token.Goals as goal
 
 pub token-preserved : goal.token-preserved

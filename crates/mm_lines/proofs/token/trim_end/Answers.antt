@@ -1,5 +1,5 @@
 use Rattle.std.proofs.Common.{◌∙◌, sym}
-use Rattle.mm_lines.proofs.SkipLaws.{trim_end_step}
+use Rattle.mm_lines.proofs.SkipLemmas.{trim_end_step}
 use Rattle.mm_lines.proofs.token.trim_end.Goals as goal
 
 pub blanks-preserved : goal.blanks-preserved

@@ -4,8 +4,8 @@ use Rattle.std.specs.Vec.{with_items}
 use Rattle.std.proofs.lemmas.List.{length-map}
 use Rattle.mm_field.specs.Vectors.{IsVector}
 use Rattle.mm_linear.specs.Eliminate.{cleared}
-use Rattle.mm_linear.proofs.InsertLaws.{IsVector-cleared}
-use Rattle.mm_matrix.proofs.RowLaws.{digits_of, item_is, row_ahead, write_step}
+use Rattle.mm_linear.proofs.InsertLemmas.{IsVector-cleared}
+use Rattle.mm_matrix.proofs.RowLemmas.{digits_of, item_is, row_ahead, write_step}
 use Rattle.mm_matrix.proofs.elimination.clear_first.Goals as goal
 
 pub clear_row-requires-clause-row : goal.clear_row-requires-clause-row

@@ -1,6 +1,6 @@
 use Rattle.std.proofs.Common.{ℕ, ◌≡◌, map, length}
 use Rattle.mm_linear.specs.Eliminate.{cleared}
-use Rattle.mm_matrix.proofs.RowLaws.{digits_of, written_to}
+use Rattle.mm_matrix.proofs.RowLemmas.{digits_of, written_to}
 use Rattle.mm_matrix.proofs.elimination.clear_first.Given as goal
 
 abbrev pub invariant-loop-i : goal.invariant-loop-i

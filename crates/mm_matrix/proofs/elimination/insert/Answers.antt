@@ -2,10 +2,10 @@ use Rattle.std.proofs.Common.{ℕ, ◌≡◌, ◌≤◌, List, ◌∷◌, length
 use Rattle.std.proofs.lemmas.List.{length-map}
 use Rattle.mm_field.specs.Vectors.{SameRowSpace}
 use Rattle.mm_linear.specs.Eliminate.{cleared}
-use Rattle.mm_linear.proofs.PivotLaws.{count_leads}
-use Rattle.mm_matrix.specs.Rests.{AreReduced, IsPlaceOf}
-use Rattle.mm_matrix.proofs.RowLaws.{digits_of, rows-insert, written_to, length-written}
-use Rattle.mm_matrix.proofs.InsertionLaws.{with_row, inserted_reduced, span-with_row}
+use Rattle.mm_linear.proofs.PivotLemmas.{count_leads}
+use Rattle.mm_matrix.specs.Residues.{AreReduced, IsPlaceOf}
+use Rattle.mm_matrix.proofs.RowLemmas.{digits_of, rows-insert, written_to, length-written}
+use Rattle.mm_matrix.proofs.InsertionLemmas.{with_row, inserted_reduced, span-with_row}
 use Rattle.mm_matrix.proofs.elimination.insert.Goals as goal
 
 pub clear_first-requires-clause-count : goal.clear_first-requires-clause-count

@@ -1,8 +1,8 @@
 use Rattle.std.proofs.Common.{ℕ, ◌≡◌, ◌<◌, ◌≢◌, List, length, get_or, map, sym, ap, ◌∙◌, subst, arith}
 use Rattle.mm_field.specs.Vectors.{zeros}
-use Rattle.mm_matrix.specs.Rests.{AddsAs}
-use Rattle.mm_matrix.proofs.RowLaws.{digits_of}
-use Rattle.mm_matrix.proofs.ReducedLaws.{IsFirstAt, scaled, nothing_new, adds_as_rest, scaled_in_place}
+use Rattle.mm_matrix.specs.Residues.{AddsAs}
+use Rattle.mm_matrix.proofs.RowLemmas.{digits_of}
+use Rattle.mm_matrix.proofs.ReducedLemmas.{IsFirstAt, scaled, nothing_new, adds_as_rest, scaled_in_place}
 use Rattle.mm_matrix.proofs.elimination.new_row.Goals as goal
 
 pub returns-in_default : goal.returns-in_default

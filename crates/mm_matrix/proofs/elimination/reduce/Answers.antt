@@ -3,9 +3,9 @@ use Rattle.std.proofs.lemmas.List.{length-map, get_or_default}
 use Rattle.mm_field.specs.Vectors.{IsVector}
 use Rattle.mm_linear.specs.Eliminate.{cleared}
 use Rattle.mm_linear.proofs.LeftUnique.{leads_above}
-use Rattle.mm_linear.proofs.PivotLaws.{count_leads}
-use Rattle.mm_matrix.proofs.RowLaws.{digits_of, item_is, item_vector}
-use Rattle.mm_matrix.proofs.RestLaws.{IsRestUpTo, rest_at_start, rest_step, rest_at_end}
+use Rattle.mm_linear.proofs.PivotLemmas.{count_leads}
+use Rattle.mm_matrix.proofs.RowLemmas.{digits_of, item_is, item_vector}
+use Rattle.mm_matrix.proofs.ResidueLemmas.{IsResidueUpTo, rest_at_start, rest_step, rest_at_end}
 use Rattle.mm_matrix.proofs.elimination.reduce.Goals as goal
 
 pub loop-i-init : goal.loop-i-init
@@ -49,7 +49,7 @@ loop-i-preserved c =
     item_is c.args.rows.now.items c.loop-i.i c.index-in-loop-i.result.now l c.index-in-loop-i.ensures ∙ sym c.deref.ensures.value in
     let is_lead : get_or c.args.leads.now.items c.loop-i.i 0 ≡ c.index.result.now =
     get_or_default c.args.leads.now.items c.loop-i.i 0 c.index.result.now (omega (arith, e, m)) ∙ sym c.index.ensures in
-    subst (λ (u : List ℕ). IsRestUpTo c.args.f (length c.args.v.now) (map digits_of c.args.rows.now.items) c.args.leads.now.items c.args.v.now u (c.loop-i.i + 1))
+    subst (λ (u : List ℕ). IsResidueUpTo c.args.f (length c.args.v.now) (map digits_of c.args.rows.now.items) c.args.leads.now.items c.args.v.now u (c.loop-i.i + 1))
     (ap₂ (λ (p : ℕ) (r : List ℕ). cleared c.args.f p r c.loop-i.v) is_lead is_row ∙ sym c.clear_row.ensures)
     (rest_step c.args.f (length c.args.v.now) c.loop-i.i (map digits_of c.args.rows.now.items) c.args.leads.now.items c.args.v.now c.loop-i.v
     c.requires.each c.requires.leads c.requires.vector (omega (arith, m)) c.loop-i.invariant)
@@ -59,4 +59,4 @@ returns c =
     let m = length-map c.args.rows.now.items digits_of in
     let done : c.loop-i.i ≡ length (map digits_of c.args.rows.now.items) = omega (arith, m) in
     rest_at_end c.args.f (length c.args.v.now) (map digits_of c.args.rows.now.items) c.args.leads.now.items c.args.v.now c.loop-i.v c.requires.leads
-    (subst (λ (i : ℕ). IsRestUpTo c.args.f (length c.args.v.now) (map digits_of c.args.rows.now.items) c.args.leads.now.items c.args.v.now c.loop-i.v i) done c.loop-i.invariant)
+    (subst (λ (i : ℕ). IsResidueUpTo c.args.f (length c.args.v.now) (map digits_of c.args.rows.now.items) c.args.leads.now.items c.args.v.now c.loop-i.v i) done c.loop-i.invariant)

@@ -1,6 +1,6 @@
 use Rattle.std.proofs.Common.{ℕ, ap, ◌∙◌}
 use Rattle.std.proofs.Math.ListN.{set}
-use Rattle.mm_matrix.proofs.ShareLaws.{share_added}
+use Rattle.mm_matrix.proofs.ShareLemmas.{share_added}
 use Rattle.mm_matrix.proofs.orthogonality.add_share.Goals as goal
 
 pub returns : goal.returns

@@ -2,16 +2,16 @@ use Rattle.std.proofs.Common.{ℕ, ◌≡◌, ◌<◌, ◌≤◌, ◌+◌, List,
 use Rattle.std.proofs.lemmas.List.{length-map, get_or-map, get_or_default}
 use Rattle.mm_field.specs.Digits.{negative}
 use Rattle.mm_field.specs.Vectors.{IsVector, vector_sum, multiple}
-use Rattle.mm_field.proofs.VectorLaws.{length-multiple, IsVector-vector_sum}
+use Rattle.mm_field.proofs.VectorLemmas.{length-multiple, IsVector-vector_sum}
 use Rattle.mm_linear.specs.Coordinates.{unit}
-use Rattle.mm_linear.proofs.BasisLaws.{IsVector-unit}
+use Rattle.mm_linear.proofs.BasisLemmas.{IsVector-unit}
 use Rattle.mm_linear.proofs.LeftUnique.{leads_above}
-use Rattle.mm_linear.proofs.PivotLaws.{count_leads}
+use Rattle.mm_linear.proofs.PivotLemmas.{count_leads}
 use Rattle.mm_matrix.specs.Orthogonal.{dot}
 use Rattle.mm_matrix.specs.Projections.{shares, left}
-use Rattle.mm_matrix.proofs.RowLaws.{digits_of, item_is, item_vector}
-use Rattle.mm_matrix.proofs.DotLaws.{dot-unit}
-use Rattle.mm_matrix.proofs.ShareLaws.{share_step, shares_done}
+use Rattle.mm_matrix.proofs.RowLemmas.{digits_of, item_is, item_vector}
+use Rattle.mm_matrix.proofs.DotLemmas.{dot-unit}
+use Rattle.mm_matrix.proofs.ShareLemmas.{share_step, shares_done}
 use Rattle.mm_matrix.proofs.orthogonality.add_shares.Goals as goal
 
 pub index-requires : goal.index-requires

@@ -1,7 +1,7 @@
 use Rattle.std.proofs.Common.{◌≡◌, map, length}
 use Rattle.mm_field.specs.Vectors.{IsVector, vector_sum}
 use Rattle.mm_matrix.specs.Projections.{left}
-use Rattle.mm_matrix.proofs.RowLaws.{digits_of}
+use Rattle.mm_matrix.proofs.RowLemmas.{digits_of}
 use Rattle.mm_matrix.proofs.orthogonality.add_shares.Given as goal
 
 abbrev pub invariant-loop-i : goal.invariant-loop-i

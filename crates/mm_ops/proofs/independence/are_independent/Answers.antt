@@ -4,8 +4,8 @@ use Rattle.std.proofs.lemmas.List.Elements.{All-drop, All-cons}
 use Rattle.std.proofs.lemmas.Bool.{both_ways}
 use Rattle.mm_field.specs.Vectors.{IsVector, InSpan}
 use Rattle.mm_linear.specs.Decide.{is_independent}
-use Rattle.mm_linear.proofs.DecideLaws.{no_rows_independent}
-use Rattle.mm_linear.proofs.SumLaws.{next_rows}
+use Rattle.mm_linear.proofs.DecideLemmas.{no_rows_independent}
+use Rattle.mm_linear.proofs.SumLemmas.{next_rows}
 use Rattle.mm_space.specs.SpaceValue.{IsIn, IsSpanOf}
 use Rattle.mm_ops.proofs.IndependenceSteps.{one_more, one_too_many, dependent_tail, in_span_of, span_with}
 use Rattle.mm_ops.proofs.independence.are_independent.Goals as goal

@@ -8,7 +8,7 @@ use Rattle.mm_tree.specs.Nodes.{named, named_leaf, IsOver}
 use Rattle.mm_present.specs.Joining.{placed_rows, joined_row, widened}
 use Rattle.mm_logic.specs.PresentMatrix.{internal}
 use Rattle.mm_present.proofs.TreeRows.{part}
-use Rattle.mm_present.proofs.NodeLaws.{always_ok, at_join, part_is, join_part, join_collected, leaf_collected, leaf_internal, node_of_leaf, nodes_at_join}
+use Rattle.mm_present.proofs.NodeLemmas.{always_ok, at_join, part_is, join_part, join_collected, leaf_collected, leaf_internal, node_of_leaf, nodes_at_join}
 use Rattle.mm_present.proofs.collecting.+collect.Goals as goal
 
 pub leaf_rows-requires : goal.leaf_rows-requires

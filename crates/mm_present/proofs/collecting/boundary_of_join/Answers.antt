@@ -3,10 +3,10 @@ use Rattle.std.specs.List.{range_with_len}
 use Rattle.mm_field.specs.Vectors.{IsVector}
 use Rattle.mm_logic.specs.Operator.{row_length}
 use Rattle.mm_present.specs.Joining.{join_row}
-use Rattle.mm_present.proofs.GrowLaws.{row_pushed, row_fits}
+use Rattle.mm_present.proofs.GrowLemmas.{row_pushed, row_fits}
 use Rattle.std.proofs.Common.{append-nil}
 use Rattle.std.proofs.lemmas.List.FromFn.{map-range_with_len_more}
-use Rattle.mm_present.proofs.SideLaws.{join_row_vector}
+use Rattle.mm_present.proofs.SideLemmas.{join_row_vector}
 use Rattle.mm_present.proofs.collecting.boundary_of_join.Goals as goal
 
 pub push_row-requires : goal.push_row-requires

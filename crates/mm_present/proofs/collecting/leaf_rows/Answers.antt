@@ -5,7 +5,7 @@ use Rattle.mm_matrix.specs.MatrixValue.{MatrixValue}
 use Rattle.mm_tree.specs.NamedTree.{shape}
 use Rattle.mm_tree.specs.Nodes.{named_leaf}
 use Rattle.mm_present.proofs.TreeRows.{part}
-use Rattle.mm_present.proofs.NodeLaws.{shape_of_element, shape_of_void}
+use Rattle.mm_present.proofs.NodeLemmas.{shape_of_element, shape_of_void}
 use Rattle.mm_present.proofs.collecting.leaf_rows.Goals as goal
 
 pub column-requires : goal.column-requires

@@ -1,7 +1,7 @@
 use Rattle.std.proofs.Common.{◌≡◌, ℕ, get_or, map, Option, None, sym, ap, ◌∙◌, arith}
 use Rattle.mm_present.specs.Comparing.{digit_at}
 use Rattle.std.proofs.lemmas.List.{take_all, get_or_default}
-use Rattle.mm_present.proofs.CompareLaws.{next_place}
+use Rattle.mm_present.proofs.CompareLemmas.{next_place}
 use Rattle.mm_present.proofs.comparison.digits_at.Goals as goal
 use Rattle.mm_present.proofs.comparison.digits_at.Goals.{in-Some, in-None}
 

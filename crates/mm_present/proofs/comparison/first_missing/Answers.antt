@@ -1,5 +1,5 @@
 use Rattle.std.proofs.Common.{arith}
-use Rattle.mm_present.proofs.CompareLaws.{missing_found, missing_next, missing_none}
+use Rattle.mm_present.proofs.CompareLemmas.{missing_found, missing_next, missing_none}
 use Rattle.mm_present.proofs.comparison.first_missing.Goals as goal
 
 pub returns-then-not-contains : goal.returns-then-not-contains

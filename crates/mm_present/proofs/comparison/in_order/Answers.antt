@@ -2,8 +2,8 @@ use Rattle.std.proofs.Common.{◌+◌, ℕ, length, map, take, List, sym, ap, su
 use Rattle.mm_field.specs.Vectors.{IsVector}
 use Rattle.mm_present.specs.Comparing.{digit_at}
 use Rattle.std.proofs.lemmas.List.{take_all}
-use Rattle.mm_present.proofs.GrowLaws.{row_pushed, row_fits, rows_done, next_value}
-use Rattle.mm_present.proofs.CompareLaws.{placed_vector}
+use Rattle.mm_present.proofs.GrowLemmas.{row_pushed, row_fits, rows_done, next_value}
+use Rattle.mm_present.proofs.CompareLemmas.{placed_vector}
 use Rattle.mm_present.proofs.comparison.in_order.Goals as goal
 
 pub push_row-requires : goal.push_row-requires

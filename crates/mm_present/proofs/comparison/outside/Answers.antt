@@ -4,10 +4,10 @@ use Rattle.mm_matrix.specs.MatrixValue.{MatrixValue}
 use Rattle.std.proofs.Common.{◌^◌}
 use Rattle.std.specs.Prelude.{MatchOption}
 use Rattle.mm_field.specs.Vectors.{IsWithin}
-use Rattle.mm_linear.specs.LeftRows.{reduced_basis}
-use Rattle.mm_linear.proofs.LeftRowsLaws.{reduced_basis_is}
+use Rattle.mm_linear.specs.ReducedEchelon.{reduced_basis}
+use Rattle.mm_linear.proofs.ReducedEchelonLemmas.{reduced_basis_is}
 use Rattle.mm_matrix.specs.Outside.{IsFirstOutside}
-use Rattle.mm_present.proofs.CompareLaws.{outside_is, found_small}
+use Rattle.mm_present.proofs.CompareLemmas.{outside_is, found_small}
 use Rattle.mm_present.proofs.comparison.outside.Goals as goal
 
 pub returns-clause-first : goal.returns-clause-first

@@ -2,7 +2,7 @@ use Rattle.std.proofs.Common.{map, [], position, ap, ◌∙◌, arith, sym}
 use Rattle.std.specs.Str.{bytes_eq}
 use Rattle.std.proofs.lemmas.List.{take_all, get_or_default}
 use Rattle.std.proofs.lemmas.Option.{get_or_from_slice_get}
-use Rattle.mm_present.proofs.CompareLaws.{next_place, same_position}
+use Rattle.mm_present.proofs.CompareLemmas.{next_place, same_position}
 use Rattle.mm_present.proofs.comparison.places_of.Goals as goal
 
 pub loop-k-preserved : goal.loop-k-preserved

@@ -2,7 +2,7 @@ use Rattle.std.proofs.Common.{rules, ◌≡◌, ◌∙◌, arith}
 use Rattle.std.proofs.lemmas.List.{take_all}
 use Rattle.indexmap.specs.IndexSet.{insert_key}
 use Rattle.mm_base.specs.contracts.name.NamePartialEq.TheImpl.{eq-value}
-use Rattle.mm_present.proofs.CompareLaws.{set_next}
+use Rattle.mm_present.proofs.CompareLemmas.{set_next}
 use Rattle.mm_present.proofs.comparison.set_of.Goals as goal
 
 pub loop-k-preserved : goal.loop-k-preserved

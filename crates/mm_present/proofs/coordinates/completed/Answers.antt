@@ -2,9 +2,9 @@ use Rattle.std.proofs.Common.{rules, ◌≡◌, ◌+◌, true, false, sym, ap, s
 use Rattle.mm_field.specs.Vectors.{IsVector}
 use Rattle.mm_linear.specs.Coordinates.{is_pivot}
 use Rattle.mm_matrix.specs.MatrixValue.{MatrixValue}
-use Rattle.mm_linear.proofs.BasisLaws.{IsVector-unit}
-use Rattle.mm_present.proofs.GrowLaws.{row_pushed, row_fits, rows_done}
-use Rattle.mm_present.proofs.SolveLaws.{with_free, free_put, free_left}
+use Rattle.mm_linear.proofs.BasisLemmas.{IsVector-unit}
+use Rattle.mm_present.proofs.GrowLemmas.{row_pushed, row_fits, rows_done}
+use Rattle.mm_present.proofs.SolveLemmas.{with_free, free_put, free_left}
 use Rattle.mm_present.proofs.coordinates.completed.Goals as goal
 use Rattle.mm_present.proofs.coordinates.completed.Goals.{then-not-branch+in_ok-row+in_ok-push_row, else-not-branch}
 

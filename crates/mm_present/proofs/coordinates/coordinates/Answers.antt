@@ -1,15 +1,15 @@
 use Rattle.std.proofs.Common.{◌≡◌, ◌<◌, ◌+◌, length, get_or, drop, [], ◌++◌, sym, ap, ap₂, subst, ◌∙◌, arith}
 use Rattle.mm_field.specs.Digits.{order}
 use Rattle.mm_field.specs.Vectors.{IsVector, AreVectors}
-use Rattle.mm_linear.specs.Coordinates.{less, digit_below, coordinates}
-use Rattle.mm_linear.specs.LeftRows.{reduced_basis}
+use Rattle.mm_linear.specs.Coordinates.{minus_multiple, digit_below, coordinates}
+use Rattle.mm_linear.specs.ReducedEchelon.{reduced_basis}
 use Rattle.mm_logic.specs.Operator.{row_length}
 use Rattle.mm_matrix.specs.MatrixValue.{MatrixValue}
 use Rattle.mm_present.specs.Bases.{space_after}
 use Rattle.std.proofs.lemmas.List.Elements.{All-drop}
 use Rattle.std.proofs.lemmas.List.FromFn.{length-map-range_with_len}
-use Rattle.mm_linear.proofs.CoordinateLaws.{IsVector-less, digit_below_digit}
-use Rattle.mm_present.proofs.SolveLaws.{basis_each, later_at, reduced_each, coordinates_next, coordinates_done}
+use Rattle.mm_linear.proofs.CoordinateLemmas.{IsVector-minus_multiple, digit_below_digit}
+use Rattle.mm_present.proofs.SolveLemmas.{basis_each, later_at, reduced_each, coordinates_next, coordinates_done}
 use Rattle.mm_present.proofs.coordinates.coordinates.Goals as goal
 
 pub index-requires : goal.index-requires
@@ -43,8 +43,8 @@ first_coordinate-requires-clause-each c =
     (subst (λ (m : MatrixValue). AreVectors op.f r m.rows) (sym (c.index.ensures ∙ at))
     (reduced_each op.f r (drop (c.loop-i.i + 1) b.rows.rows) (All-drop (λ v. IsVector op.f r v) (c.loop-i.i + 1) b.rows.rows h.3))))
 
-pub less-requires-clause-factor : goal.less-requires-clause-factor
-less-requires-clause-factor c =
+pub minus_multiple-requires-clause-factor : goal.minus_multiple-requires-clause-factor
+minus_multiple-requires-clause-factor c =
     subst (λ d. d < order c.field-f.result) (sym c.in_ok-c.ensures)
     (digit_below_digit c.field-f.result (length c.deref.result.now) c.index.result.now.rows c.row.result.now c.deref.result.now (order c.field-f.result) (omega arith))
 
@@ -67,13 +67,13 @@ loop-i-preserved c =
     ∙ ap (λ g. digit_below g (length c.deref.result.now) c.index.result.now.rows c.row.result.now c.deref.result.now (order g)) c.field-f.ensures.field
     ∙ ap₂ (λ n rows. digit_below f n rows c.row.result.now c.deref.result.now (order f)) long space
     ∙ ap₂ (λ u w. digit_below f r (reduced_basis f r (drop (i + 1) R)) u w (order f)) c.row.ensures.value c.deref.ensures.value in
-    let made : c.in_ok-rest-2.rest.items ≡ less f x c.in_ok-c.c v =
+    let made : c.in_ok-rest-2.rest.items ≡ minus_multiple f x c.in_ok-c.c v =
     c.in_ok-rest-2.ensures.0
-    ∙ ap (λ g. less g c.deref-in-loop-i.result.now c.in_ok-c.c c.row-in-loop-i.result.now) c.field-f.ensures.field
-    ∙ ap₂ (λ w u. less f w c.in_ok-c.c u) c.deref-in-loop-i.ensures.value c.row-in-loop-i.ensures.value in
+    ∙ ap (λ g. minus_multiple g c.deref-in-loop-i.result.now c.in_ok-c.c c.row-in-loop-i.result.now) c.field-f.ensures.field
+    ∙ ap₂ (λ w u. minus_multiple f w c.in_ok-c.c u) c.deref-in-loop-i.ensures.value c.row-in-loop-i.ensures.value in
     record {
       vector = subst (λ u. IsVector f r u) (sym made)
-          (IsVector-less f r c.in_ok-c.c x v c.loop-i.invariant.vector.len (h.3 i [] (omega (arith, c.rows-i-end.ensures.count))).len);
+          (IsVector-minus_multiple f r c.in_ok-c.c x v c.loop-i.invariant.vector.len (h.3 i [] (omega (arith, c.rows-i-end.ensures.count))).len);
       found =
           coordinates_next f r i R (coordinates f r R c.args.x.now) c.loop-i.digits.items x c.in_ok-rest-2.rest.items c.in_ok-c.c h.3
           (omega (arith, c.rows-i-end.ensures.count)) c.loop-i.invariant.vector digit made c.loop-i.invariant.found

@@ -2,10 +2,10 @@ use Rattle.std.proofs.Common.{map, take, sym, subst, ◌∙◌}
 use Rattle.mm_field.specs.Vectors.{IsVector}
 use Rattle.mm_linear.specs.Coordinates.{coordinates}
 use Rattle.mm_logic.specs.Operator.{row_length}
-use Rattle.mm_linear.proofs.CoordinateLaws.{IsVector-coordinates}
+use Rattle.mm_linear.proofs.CoordinateLemmas.{IsVector-coordinates}
 use Rattle.mm_logic.specs.PresentMatrix.{column_digits}
-use Rattle.mm_present.proofs.GrowLaws.{row_fits}
-use Rattle.mm_present.proofs.SolveLaws.{basis_each}
+use Rattle.mm_present.proofs.GrowLemmas.{row_fits}
+use Rattle.mm_present.proofs.SolveLemmas.{basis_each}
 use Rattle.mm_present.proofs.coordinates.digits_in_join.Goals as goal
 
 pub push_row-requires : goal.push_row-requires

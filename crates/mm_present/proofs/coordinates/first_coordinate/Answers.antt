@@ -1,7 +1,7 @@
 use Rattle.std.proofs.Common.{◌≡◌, ◌+◌, ◌-◌, length, true, false, sym, ap, ap₂, ◌∙◌, arith}
 use Rattle.mm_linear.specs.Coordinates.{digit_below}
 use Rattle.mm_linear.specs.Decide.{is_in_span}
-use Rattle.mm_present.proofs.SolveLaws.{digit_here, digit_none}
+use Rattle.mm_present.proofs.SolveLemmas.{digit_here, digit_none}
 use Rattle.mm_present.proofs.coordinates.first_coordinate.Goals as goal
 
 pub returns-then-branch : goal.returns-then-branch

@@ -1,6 +1,6 @@
 use Rattle.std.proofs.Common.{[], ◌∷◌, ◌++◌, ap, ◌∙◌}
 use Rattle.mm_matrix.specs.MatrixValue.{MatrixValue}
-use Rattle.mm_present.proofs.SolveLaws.{inside_by_one}
+use Rattle.mm_present.proofs.SolveLemmas.{inside_by_one}
 use Rattle.mm_present.proofs.coordinates.is_inside.Goals as goal
 
 pub returns : goal.returns

@@ -1,10 +1,10 @@
 use Rattle.std.proofs.Common.{◌+◌, length, map, take, sym, ap, subst, ◌∙◌, arith}
 use Rattle.mm_field.specs.Vectors.{AreVectors}
 use Rattle.mm_linear.specs.Decide.{is_in_span}
-use Rattle.mm_linear.specs.LeftRows.{reduced_basis}
+use Rattle.mm_linear.specs.ReducedEchelon.{reduced_basis}
 use Rattle.mm_matrix.specs.MatrixValue.{MatrixValue}
-use Rattle.mm_linear.proofs.BasisLaws.{IsVector-unit}
-use Rattle.mm_present.proofs.SolveLaws.{space_each, pivot_is}
+use Rattle.mm_linear.proofs.BasisLemmas.{IsVector-unit}
+use Rattle.mm_present.proofs.SolveLemmas.{space_each, pivot_is}
 use Rattle.mm_present.proofs.coordinates.is_pivot.Goals as goal
 
 pub is_inside-requires-clause-each : goal.is_inside-requires-clause-each

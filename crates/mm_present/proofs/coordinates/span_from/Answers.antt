@@ -1,7 +1,7 @@
 use Rattle.std.proofs.Common.{◌≡◌, ◌+◌, ◌-◌, get_or, take, drop, [], sym, ap, ◌∙◌, arith}
 use Rattle.std.proofs.Common.{length-drop}
 use Rattle.std.proofs.lemmas.List.{get_or-drop}
-use Rattle.mm_present.proofs.GrowLaws.{row_pushed, next_row}
+use Rattle.mm_present.proofs.GrowLemmas.{row_pushed, next_row}
 use Rattle.mm_present.proofs.coordinates.span_from.Goals as goal
 
 pub loop-i-preserved : goal.loop-i-preserved

@@ -3,7 +3,7 @@ use Rattle.std.specs.List.{IsDistinct}
 use Rattle.std.specs.Str.{bytes_eq}
 use Rattle.mm_tree.specs.NamedTree.{element_names}
 use Rattle.mm_tree.specs.Nodes.{named}
-use Rattle.mm_present.proofs.NameLaws.{different_elements}
+use Rattle.mm_present.proofs.NameLemmas.{different_elements}
 use Rattle.mm_present.proofs.elements.elements.Goals as goal
 
 pub returns-clause-different : goal.returns-clause-different

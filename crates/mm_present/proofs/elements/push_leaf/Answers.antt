@@ -1,5 +1,5 @@
 use Rattle.std.proofs.Common.{◌++◌, sym, ap, ◌∙◌, append-nil}
-use Rattle.mm_present.proofs.NameLaws.{no_element}
+use Rattle.mm_present.proofs.NameLemmas.{no_element}
 use Rattle.mm_present.proofs.elements.push_leaf.Goals as goal
 
 pub returns-in-None : goal.returns-in-None

@@ -1,9 +1,9 @@
 use Rattle.std.proofs.Common.{length, ap, ◌∙◌}
-use Rattle.mm_linear.specs.LeftRows.{reduced_basis}
+use Rattle.mm_linear.specs.ReducedEchelon.{reduced_basis}
 use Rattle.mm_matrix.specs.MatrixValue.{MatrixValue}
 use Rattle.mm_tree.specs.NamedTree.{shape}
 use Rattle.mm_present.specs.Comparing.{present_rows}
-use Rattle.mm_present.proofs.RankLaws.{rank_decides}
+use Rattle.mm_present.proofs.RankLemmas.{rank_decides}
 use Rattle.mm_present.proofs.independence.is_independent.Goals as goal
 
 pub returns : goal.returns

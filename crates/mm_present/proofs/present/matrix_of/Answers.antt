@@ -5,8 +5,8 @@ use Rattle.mm_tree.specs.Nodes.{named, IsOver}
 use Rattle.mm_present.specs.Comparing.{present_rows}
 use Rattle.mm_present.specs.Joining.{placed_rows}
 use Rattle.mm_present.proofs.TreeRows.{part, collected_vectors, collected_matrix}
-use Rattle.mm_present.proofs.NodeLaws.{field_is}
-use Rattle.mm_present.proofs.NameLaws.{count_elements, few_elements}
+use Rattle.mm_present.proofs.NodeLemmas.{field_is}
+use Rattle.mm_present.proofs.NameLemmas.{count_elements, few_elements}
 use Rattle.mm_present.proofs.present.matrix_of.Goals as goal
 
 pub collect-requires-clause-over : goal.collect-requires-clause-over
@@ -31,7 +31,7 @@ collect-requires-clause-valid c =
 pub collect-requires-clause-few : goal.collect-requires-clause-few
 collect-requires-clause-few c =
     let few = c.node.ensures.valid.few in
-    let less = few_elements c.args.tree.now.tree in
+    let minus_multiple = few_elements c.args.tree.now.tree in
     omega (arith, c.len.ensures, ap length c.in_ok-names.ensures.names)
 
 pub collect-requires-clause-room : goal.collect-requires-clause-room

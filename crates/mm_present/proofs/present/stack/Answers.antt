@@ -1,6 +1,6 @@
 use Rattle.std.proofs.Common.{◌≡◌, ◌+◌, ◌++◌, ◌∷◌, [], map, length, refl, sym, ap, subst, ◌∙◌, arith}
 use Rattle.std.specs.Prelude.{MatchOption, vec_len}
-use Rattle.mm_present.proofs.StackLaws.{stacks, stacked, stack_done, popped, popped_count, none_left}
+use Rattle.mm_present.proofs.StackLemmas.{stacks, stacked, stack_done, popped, popped_count, none_left}
 use Rattle.mm_present.proofs.present.stack.Goals as goal
 use Rattle.mm_present.proofs.present.stack.Goals.{in-Some+in_ok-push_row, in_default}
 
@@ -26,7 +26,7 @@ loop-preserved c =
     let count = c.loop.invariant.count in
     elim c.match-pop.branch [
       | in-Some+in_ok-push_row w ↦
-          let less = popped_count c.loop.rows.items c.pop.new.self.items c.pop.result w.in-Some.row c.pop.ensures.items w.in-Some.is in
+          let minus_multiple = popped_count c.loop.rows.items c.pop.new.self.items c.pop.result w.in-Some.row c.pop.ensures.items w.in-Some.is in
           record {
             count = omega arith;
             stacking = stacked c.args.matrix c.loop.matrix c.match-pop.matrix all left rest w.deref.result.now c.loop.invariant.stacking

@@ -1,5 +1,5 @@
 use Rattle.std.proofs.Common.{◌≡◌, ◌+◌, length, map}
-use Rattle.mm_present.proofs.StackLaws.{IsStacking}
+use Rattle.mm_present.proofs.StackLemmas.{IsStacking}
 use Rattle.mm_present.proofs.present.stack.Given as goal
 
 abbrev pub invariant-loop : goal.invariant-loop

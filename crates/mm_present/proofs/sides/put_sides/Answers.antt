@@ -1,7 +1,7 @@
 use Rattle.std.proofs.Common.{◌+◌, ◌≡◌, take, drop, subst, sym, ap, ◌∙◌}
 use Rattle.mm_field.specs.Vectors.{zeros}
 use Rattle.mm_present.specs.Joining.{side_row, with_digits}
-use Rattle.mm_present.proofs.SideLaws.{both_put, side_vector, zeros_behind}
+use Rattle.mm_present.proofs.SideLemmas.{both_put, side_vector, zeros_after}
 use Rattle.mm_present.proofs.sides.put_sides.Goals as goal
 
 pub put_side-requires-2-clause-zero : goal.put_side-requires-2-clause-zero
@@ -12,7 +12,7 @@ put_side-requires-2-clause-zero c =
     c.put_side.ensures ∙ ap (λ z. with_digits c.args.before (side_row c.args.k left) z) c.requires.zero in
     subst (λ n. take right.rows.cols (drop (c.args.before + n) c.put_side.new.row) ≡ zeros right.rows.cols) (sym c.cols.ensures)
     (ap (λ z. take right.rows.cols (drop (c.args.before + left.rows.cols) z)) row
-    ∙ zeros_behind c.args.before left.rows.cols right.rows.cols c.args.after (side_row c.args.k left) (side_vector left.rows.f left.digits.now.cols c.args.k left c.requires.left).len)
+    ∙ zeros_after c.args.before left.rows.cols right.rows.cols c.args.after (side_row c.args.k left) (side_vector left.rows.f left.digits.now.cols c.args.k left c.requires.left).len)
 
 pub returns : goal.returns
 returns c =

@@ -2,7 +2,7 @@ use Rattle.std.proofs.Common.{rules, ◌≡◌, false, [], ◌∷◌, ◌++◌, 
 use Rattle.std.specs.List.{IsDistinct}
 use Rattle.std.specs.Str.{bytes_eq}
 use Rattle.mm_base.specs.contracts.name.NamePartialEq.TheImpl.{eq-value}
-use Rattle.mm_present.proofs.CompareLaws.{three_different}
+use Rattle.mm_present.proofs.CompareLemmas.{three_different}
 use Rattle.mm_present.proofs.tests.compared.Goals as goal
 
 pub compare-requires-clause-different : goal.compare-requires-clause-different

@@ -1,7 +1,7 @@
 use Rattle.std.proofs.Common.{[], sym, ◌∙◌, arith, subst, take}
 use Rattle.std.proofs.lemmas.List.{take_all}
 use Rattle.mm_field.specs.Vectors.{IsVector}
-use Rattle.mm_present.proofs.GrowLaws.{row_pushed, row_fits, rows_done, next_row}
+use Rattle.mm_present.proofs.GrowLemmas.{row_pushed, row_fits, rows_done, next_row}
 use Rattle.mm_present.proofs.vectors.rows_of.Goals as goal
 
 pub push_row-requires : goal.push_row-requires

@@ -1,7 +1,7 @@
 use Rattle.std.proofs.Common.{ℕ, List, ◌-◌, [], map, subst, sym, ◌∙◌, arith}
 use Rattle.std.proofs.lemmas.List.{length-map, get_or-map}
 use Rattle.mm_field.specs.Vectors.{IsVector, AreVectors, combination}
-use Rattle.mm_field.proofs.CombinationLaws.{IsVector-combination}
+use Rattle.mm_field.proofs.CombinationLemmas.{IsVector-combination}
 use Rattle.mm_linear.specs.Echelons.{EndsAt}
 use Rattle.mm_linear.specs.Padded.{padded}
 use Rattle.mm_space.specs.Images.{wide_images}

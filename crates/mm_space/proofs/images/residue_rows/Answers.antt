@@ -5,7 +5,7 @@ use Rattle.mm_linear.specs.Echelons.{EndsAt}
 use Rattle.mm_linear.specs.Eliminate.{residue}
 use Rattle.mm_space.specs.Preimages.{tagged_rows}
 use Rattle.mm_space.proofs.Gathering.{gathering_start, gathering_step, gathering_end}
-use Rattle.mm_space.proofs.PreimageLaws.{tag_is_vector, tag_ends, tagged_are, tagged-get, length-tagged}
+use Rattle.mm_space.proofs.PreimageLemmas.{tag_is_vector, tag_ends, tagged_are, tagged-get, length-tagged}
 use Rattle.mm_space.proofs.images.residue_rows.Goals as goal
 
 pub loop-i-init : goal.loop-i-init

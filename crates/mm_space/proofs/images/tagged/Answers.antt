@@ -1,6 +1,6 @@
 use Rattle.std.proofs.Common.{arith, length-set}
 use Rattle.mm_field.specs.Vectors.{zeros}
-use Rattle.mm_space.proofs.PreimageLaws.{unit_in_array, tag_from_entries}
+use Rattle.mm_space.proofs.PreimageLemmas.{unit_in_array, tag_from_entries}
 use Rattle.mm_space.proofs.images.tagged.Goals as goal
 
 pub loop-k-init : goal.loop-k-init

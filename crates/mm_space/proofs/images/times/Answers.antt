@@ -3,7 +3,7 @@ use Rattle.std.proofs.lemmas.List.{length-map, get_or-map}
 use Rattle.std.proofs.lemmas.List.Elements.{All-drop}
 use Rattle.mm_field.specs.Digits.{order}
 use Rattle.mm_field.specs.Vectors.{AreDigits, IsVector}
-use Rattle.mm_field.proofs.CombinationLaws.{IsVector-combination}
+use Rattle.mm_field.proofs.CombinationLemmas.{IsVector-combination}
 use Rattle.mm_linear.specs.Padded.{padded}
 use Rattle.mm_space.proofs.Gathering.{times_start, times_step}
 use Rattle.mm_space.proofs.images.times.Goals as goal

@@ -1,5 +1,5 @@
 use Rattle.std.proofs.Common.{◌+◌, ◌*◌, ◌^◌, ◌≡◌, ◌<◌, arith, length, get_or}
-use Rattle.mm_space.proofs.PackLaws.{row_step, room_step, power_most}
+use Rattle.mm_space.proofs.PackLemmas.{row_step, room_step, power_most}
 use Rattle.mm_space.proofs.key.with_row.Goals as goal
 
 pub overflow_mul-all : goal.overflow_mul-all

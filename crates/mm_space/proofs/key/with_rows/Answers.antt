@@ -1,5 +1,5 @@
 use Rattle.std.proofs.Common.{◌+◌, ◌*◌, ◌≡◌, ◌≤◌, arith, sym, subst, length}
-use Rattle.mm_space.proofs.PackLaws.{power_most}
+use Rattle.mm_space.proofs.PackLemmas.{power_most}
 use Rattle.mm_space.proofs.PackSteps.{IsPacking, packing_step, packing_zero}
 use Rattle.mm_space.proofs.key.with_rows.Goals.{then-rows-j-ne0, else-rows-j-ne0}
 use Rattle.mm_space.proofs.key.with_rows.Goals as goal

@@ -1,5 +1,5 @@
 use Rattle.std.proofs.Common.{◌+◌, arith, sym, subst}
-use Rattle.mm_space.proofs.RowLaws.{IsClearing, clearing_step, clearing_zero, cleared_from_rows}
+use Rattle.mm_space.proofs.RowLemmas.{IsClearing, clearing_step, clearing_zero, cleared_from_rows}
 use Rattle.mm_space.proofs.rows.clear_all.Goals.{then-d-ne0, else-d-ne0}
 use Rattle.mm_space.proofs.rows.clear_all.Goals as goal
 

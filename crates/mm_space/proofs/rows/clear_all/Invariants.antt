@@ -1,4 +1,4 @@
-use Rattle.mm_space.proofs.RowLaws.{IsClearing}
+use Rattle.mm_space.proofs.RowLemmas.{IsClearing}
 use Rattle.mm_space.proofs.rows.clear_all.Given as goal
 
 abbrev pub invariant-loop-i : goal.invariant-loop-i

@@ -1,4 +1,4 @@
-use Rattle.mm_space.proofs.RowLaws.{holds_decides}
+use Rattle.mm_space.proofs.RowLemmas.{holds_decides}
 use Rattle.mm_space.proofs.rows.holds.Goals as goal
 
 pub returns : goal.returns

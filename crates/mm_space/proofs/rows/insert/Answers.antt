@@ -1,8 +1,8 @@
 use Rattle.std.proofs.Common.{◌≡◌, arith, sym, subst, length, ap, ◌∙◌}
 use Rattle.mm_field.specs.Vectors.{IsVector, multiple}
-use Rattle.mm_field.proofs.VectorLaws.{IsVector-multiple}
-use Rattle.mm_linear.proofs.InsertLaws.{in_span_with_no_residue}
-use Rattle.mm_space.proofs.RowLaws.{inserted_is, nothing_inserted, outside_with_residue}
+use Rattle.mm_field.proofs.VectorLemmas.{IsVector-multiple}
+use Rattle.mm_linear.proofs.InsertLemmas.{in_span_with_no_residue}
+use Rattle.mm_space.proofs.RowLemmas.{inserted_is, nothing_inserted, outside_with_residue}
 use Rattle.mm_space.proofs.rows.insert.Goals as goal
 
 pub inv-c-requires-clause-digit : goal.inv-c-requires-clause-digit

@@ -1,5 +1,5 @@
 use Rattle.std.proofs.Common.{◌+◌, ◌<◌, arith, sym, subst}
-use Rattle.mm_space.proofs.RowLaws.{IsUnderway, underway_step, underway_zero, underway_end, residue_ends}
+use Rattle.mm_space.proofs.RowLemmas.{IsUnderway, underway_step, underway_zero, underway_end, residue_ends}
 use Rattle.mm_linear.specs.Echelons.{EndsAt}
 use Rattle.mm_space.proofs.rows.reduced.Goals.{then-rows-j-ne0, else-rows-j-ne0}
 use Rattle.mm_space.proofs.rows.reduced.Goals as goal

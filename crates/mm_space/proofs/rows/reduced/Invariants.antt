@@ -1,4 +1,4 @@
-use Rattle.mm_space.proofs.RowLaws.{IsUnderway}
+use Rattle.mm_space.proofs.RowLemmas.{IsUnderway}
 use Rattle.mm_space.proofs.rows.reduced.Given as goal
 
 abbrev pub invariant-loop-j : goal.invariant-loop-j

@@ -1,7 +1,7 @@
 use Rattle.std.proofs.Common.{arith, sym, ap₂, ◌∙◌, [], ◌∷◌, ◌++◌}
 use Rattle.std.proofs.lemmas.List.{get_or-set_other, get_or-replicate}
 use Rattle.mm_field.specs.Vectors.{zeros}
-use Rattle.mm_space.proofs.HeadLaws.{unit_taken, units_more}
+use Rattle.mm_space.proofs.HeadLemmas.{unit_taken, units_more}
 use Rattle.mm_space.proofs.space.first_units.Goals as goal
 
 pub of-requires-clause-zeros : goal.of-requires-clause-zeros

@@ -6,9 +6,9 @@ use Rattle.mm_tree.specs.declared.node.Node.{Node}
 use Rattle.mm_tree.specs.declared.place.Place.{Place}
 use Rattle.mm_tree.specs.declared.place.Reached.{Reached}
 use Rattle.mm_tree.specs.declared.place.Reached.TheVariants.{Absent, Above, At}
-use Rattle.mm_tree.specs.Ways.{way_to}
+use Rattle.mm_tree.specs.Paths.{path_to}
 use Rattle.mm_tree.proofs.Walks.{leaf_nodes, named_join, named_of_leaf}
-use Rattle.mm_tree.proofs.WayLaws.{Finds, of_absent, finds_leaf, lacks_leaf, climbs_left, climbs_right, lacks_both, reaches_left, reaches_right}
+use Rattle.mm_tree.proofs.PathLemmas.{Finds, of_absent, finds_leaf, lacks_leaf, climbs_left, climbs_right, lacks_both, reaches_left, reaches_right}
 use Rattle.mm_tree.proofs.place.+search.Goals as goal
 
 -- what was found below a child is found below the tree that it stands for
@@ -51,7 +51,7 @@ returns-in-Absent-search-clause-reached t c =
     let whole : named c.args.node.now ≡ Join n op left right = ap named c.in-Join.is ∙ named_join n c.in-Join.field-1 c.in-Join.left c.in-Join.right in
     let none = moved name c.deref.result.now c.in-Join.left.value under up c.search.result (Absent c.in-Absent.passed) c.deref.ensures c.in-Absent.is c.search.ensures.reached in
     let passed = c.in-Absent.passed in
-    let before = of_absent left under up (way_to name left) passed none in
+    let before = of_absent left under up (path_to name left) passed none in
     let after : Place = record { number = here.number + 1 + passed; depth = here.depth + 1 } in
     let last = moved name c.deref-in-Absent.result.now c.in-Join.right.value after up c.search-in-Absent.result (Absent c.in-Absent-search.more) c.deref-in-Absent.ensures c.in-Absent-search.is c.search-in-Absent.ensures.reached in
     for_tree name (named c.args.node.now) (Join n op left right) here up (Absent (passed + c.in-Absent-search.more + 1)) whole
@@ -70,7 +70,7 @@ returns-in-Above-search-clause-reached t c =
     let whole : named c.args.node.now ≡ Join n op left right = ap named c.in-Join.is ∙ named_join n c.in-Join.field-1 c.in-Join.left c.in-Join.right in
     let none = moved name c.deref.result.now c.in-Join.left.value under up c.search.result (Absent c.in-Absent.passed) c.deref.ensures c.in-Absent.is c.search.ensures.reached in
     let passed = c.in-Absent.passed in
-    let before = of_absent left under up (way_to name left) passed none in
+    let before = of_absent left under up (path_to name left) passed none in
     let after : Place = record { number = here.number + 1 + passed; depth = here.depth + 1 } in
     let last = moved name c.deref-in-Absent.result.now c.in-Join.right.value after up c.search-in-Absent.result (Above c.in-Above-search.steps) c.deref-in-Absent.ensures c.in-Above-search.is c.search-in-Absent.ensures.reached in
     for_tree name (named c.args.node.now) (Join n op left right) here up c.climb-in-Above-search.result whole
@@ -90,7 +90,7 @@ returns-in-At-search-clause-reached t c =
     let whole : named c.args.node.now ≡ Join n op left right = ap named c.in-Join.is ∙ named_join n c.in-Join.field-1 c.in-Join.left c.in-Join.right in
     let none = moved name c.deref.result.now c.in-Join.left.value under up c.search.result (Absent c.in-Absent.passed) c.deref.ensures c.in-Absent.is c.search.ensures.reached in
     let passed = c.in-Absent.passed in
-    let before = of_absent left under up (way_to name left) passed none in
+    let before = of_absent left under up (path_to name left) passed none in
     let after : Place = record { number = here.number + 1 + passed; depth = here.depth + 1 } in
     let last = moved name c.deref-in-Absent.result.now c.in-Join.right.value after up c.search-in-Absent.result (At c.in-At-search.place) c.deref-in-Absent.ensures c.in-At-search.is c.search-in-Absent.ensures.reached in
     for_tree name (named c.args.node.now) (Join n op left right) here up (At c.in-At-search.place) whole

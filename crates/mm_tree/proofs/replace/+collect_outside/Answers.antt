@@ -8,7 +8,7 @@ use Rattle.mm_tree.specs.NamedTree.{Tree}
 use Rattle.mm_tree.specs.NamedTree.Tree.{Join}
 use Rattle.mm_tree.specs.Nodes.{named, named_leaf}
 use Rattle.mm_tree.specs.declared.node.Node.{Node}
-use Rattle.mm_tree.proofs.ReplaceLaws.{collected_root, collected_leaf, collected_join}
+use Rattle.mm_tree.proofs.ReplaceLemmas.{collected_root, collected_leaf, collected_join}
 use Rattle.mm_tree.proofs.Walks.{named_of_leaf, named_join}
 use Rattle.mm_tree.proofs.replace.+collect_outside.Goals as goal
 

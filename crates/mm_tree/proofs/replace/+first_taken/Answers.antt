@@ -4,7 +4,7 @@ use Rattle.mm_tree.specs.NamedTree.Tree.{Join}
 use Rattle.mm_tree.specs.Nodes.{named, named_leaf}
 use Rattle.mm_tree.specs.Replacing.{first_taken}
 use Rattle.mm_tree.specs.declared.node.Node.{Node}
-use Rattle.mm_tree.proofs.ReplaceLaws.{or_taken, taken_join, taken_leaf}
+use Rattle.mm_tree.proofs.ReplaceLemmas.{or_taken, taken_join, taken_leaf}
 use Rattle.mm_tree.proofs.Walks.{named_of_leaf, named_join}
 use Rattle.mm_tree.proofs.replace.+first_taken.Goals as goal
 

@@ -7,7 +7,7 @@ use Rattle.mm_tree.specs.declared.node.Node.{Node}
 use Rattle.mm_tree.specs.declared.splice.Sought.{Sought}
 use Rattle.mm_tree.specs.declared.splice.Sought.TheVariants.{Here, Beyond}
 use Rattle.mm_tree.proofs.Walks.{named_join, named_of_leaf, leaf_nodes}
-use Rattle.mm_tree.proofs.StepLaws.{sought_root, sought_left, sought_right}
+use Rattle.mm_tree.proofs.StepLemmas.{sought_root, sought_left, sought_right}
 use Rattle.mm_tree.proofs.splice.+boundary_at.Goals as goal
 
 moved : (a b : Node) (at : ℕ) (found last : Sought) → a ≡ b → found ≡ last → IsSought (named a) at found → IsSought (named b) at last

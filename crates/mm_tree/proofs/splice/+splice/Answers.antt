@@ -8,7 +8,7 @@ use Rattle.mm_tree.specs.declared.node.Node.TheViews as views
 use Rattle.mm_tree.specs.declared.splice.Spliced.{Spliced}
 use Rattle.mm_tree.specs.declared.splice.Spliced.TheVariants.{Done, NotHere}
 use Rattle.mm_tree.proofs.Walks.{named_of_leaf, leaf_nodes}
-use Rattle.mm_tree.proofs.StepLaws.{exchanged_root, exchanged_left, spliced_right}
+use Rattle.mm_tree.proofs.StepLemmas.{exchanged_root, exchanged_left, spliced_right}
 use Rattle.mm_tree.proofs.splice.+splice.Goals as goal
 
 moved : (a b now : Node) (at : ℕ) (new : Node) (found last : Spliced) → a ≡ b → found ≡ last → IsSpliced a now at new found → IsSpliced b now at new last

@@ -4,7 +4,7 @@ use Rattle.mm_tree.specs.Steps.{IsReweighted}
 use Rattle.mm_tree.specs.declared.node.Node.{Node}
 use Rattle.mm_tree.specs.declared.node.Node as nodes_of
 use Rattle.mm_tree.specs.declared.node.Node.TheViews as views
-use Rattle.mm_tree.proofs.StepLaws.{reweighted_leaf, reweighted_left, reweighted_right}
+use Rattle.mm_tree.proofs.StepLemmas.{reweighted_leaf, reweighted_left, reweighted_right}
 use Rattle.mm_tree.proofs.walk.+set_weight.Goals as goal
 
 moved : (name : List ℕ) (w v : ℤ) (a b new : Node) (found last : Bool) → w ≡ v → a ≡ b → found ≡ last → IsReweighted name w a new found →

@@ -3,7 +3,7 @@ use Rattle.std.proofs.lemmas.Result.{on_ok_weaker}
 use Rattle.mm_tree.specs.Nodes.{named}
 use Rattle.mm_tree.specs.TreeText.{node_lines, text_of_lines, join_text}
 use Rattle.mm_tree.specs.declared.node.Node.{Node}
-use Rattle.mm_tree.proofs.TextLaws.{join_lines}
+use Rattle.mm_tree.proofs.TextLemmas.{join_lines}
 use Rattle.mm_tree.proofs.write.+append_node.Goals as goal
 
 pub returns-in_ok-append_node-in-Join-2 : goal.returns-in_ok-append_node-in-Join-2

@@ -1,7 +1,7 @@
 use Rattle.std.proofs.Common.{List, ℕ, ◌++◌, ap, sym, ◌∙◌}
 use Rattle.std.proofs.lemmas.Result.{on_ok_weaker}
 use Rattle.mm_tree.specs.TreeText.{text_of_lines}
-use Rattle.mm_tree.proofs.TextLaws.{elem_digits, elem_lines, void_lines}
+use Rattle.mm_tree.proofs.TextLemmas.{elem_digits, elem_lines, void_lines}
 use Rattle.mm_tree.proofs.write.append_leaf.Goals as goal
 
 pub append_elem-requires : goal.append_elem-requires

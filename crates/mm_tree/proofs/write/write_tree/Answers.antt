@@ -3,7 +3,7 @@ use Rattle.std.specs.Prelude.{codes}
 use Rattle.mm_tree.specs.NamedTree.{Tree}
 use Rattle.mm_tree.specs.Nodes.{named}
 use Rattle.mm_tree.specs.TreeText.{node_lines, text_of_lines, HasShownDigits}
-use Rattle.mm_tree.proofs.TextLaws.{valid_digits, whole_text}
+use Rattle.mm_tree.proofs.TextLemmas.{valid_digits, whole_text}
 use Rattle.mm_tree.proofs.write.write_tree.Goals as goal
 
 pub append_node-requires : goal.append_node-requires

@@ -1,5 +1,5 @@
 use Rattle.std.proofs.Common.{◌∙◌, sym}
-use Rattle.mm_base.proofs.PaddedLaws.{padded_name}
+use Rattle.mm_base.proofs.PaddedLemmas.{padded_name}
 use Rattle.mm_base.proofs.name.Name.read.Goals as goal
 
 pub invariant_of-result : goal.invariant_of-result

@@ -1,7 +1,7 @@
 use Rattle.std.proofs.Common.{◌≡◌, ◌-◌, drop, take, length, min, List, ℕ, sym, ap, ◌∙◌}
 use Rattle.std.proofs.lemmas.List.{take_rest}
-use Rattle.mm_base.specs.Tapes.{Tape}
-use Rattle.mm_base.proofs.CopyLaws.{given, nothing_left}
+use Rattle.mm_base.specs.DeviceStates.{SourceState}
+use Rattle.mm_base.proofs.CopyLemmas.{given, nothing_left}
 use Rattle.mm_base.proofs.source.MemorySourceSource.read.Goals as goal
 
 pub returns-clause-bytes : goal.returns-clause-bytes
@@ -11,7 +11,7 @@ returns-clause-bytes c =
     let n = c.give-count.result in
     let buf = c.give-count.new.buf in
     let xs = c.deref-2.result.now in
-    let left : c.args.self.now.left ≡ drop at items = ap (λ (t : Tape). t.left) (sym c.self.view_is) in
+    let left : c.args.self.now.left ≡ drop at items = ap (λ (t : SourceState). t.left) (sym c.self.view_is) in
     let rest : take (length xs - at) (drop at xs) ≡ drop at items = take_rest xs at ∙ ap (λ (z : List ℕ). drop at z) c.deref-2.ensures.value in
     let front : take n buf ≡ take n (drop at items) = c.give-count.ensures.bytes ∙ ap (λ (z : List ℕ). take n z) rest in
     let count : n ≡ min c.self.inside.piece (min (length buf) (length (drop at items))) =

@@ -1,6 +1,6 @@
 use Rattle.std.proofs.Common.{◌∙◌, sym}
 use Rattle.mm_formula.specs.Syntax.{syntax_of}
-use Rattle.mm_formula.proofs.ScopeLaws.{scoped}
+use Rattle.mm_formula.proofs.ScopeLemmas.{scoped}
 use Rattle.mm_formula.proofs.scope.Scoped.of.Goals as goal
 
 pub invariant_of-result : goal.invariant_of-result

@@ -2,7 +2,7 @@ use Rattle.std.proofs.Common.{◌≡◌, true, sym, ◌∙◌, length}
 use Rattle.std.proofs.lemmas.Bool.{leb-true, and_parts}
 use Rattle.mm_formula.specs.Variables.{is_var, is_word, is_reserved}
 use Rattle.std.specs.Prelude.{nat_le, not, ◌&&◌}
-use Rattle.mm_formula.proofs.PaddedLaws.{padded}
+use Rattle.mm_formula.proofs.PaddedLemmas.{padded}
 use Rattle.mm_formula.proofs.var.Var.read.Goals as goal
 
 pub invariant_of-result : goal.invariant_of-result

@@ -1,4 +1,4 @@
-use Rattle.mm_formula.proofs.RepeatLaws.{distinct_with}
+use Rattle.mm_formula.proofs.RepeatLemmas.{distinct_with}
 use Rattle.mm_formula.proofs.var.VarList.push.Goals as goal
 
 pub invariant_of-self-2 : goal.invariant_of-self-2

@@ -1,6 +1,6 @@
 use Rattle.std.proofs.Common.{◌∙◌, not, sym, ap}
 use Rattle.mm_formula_text.specs.Grammar.{mention}
-use Rattle.mm_formula_text.proofs.PartsLaws.{had, mention-old, mention-new}
+use Rattle.mm_formula_text.proofs.PartsLemmas.{had, mention-old, mention-new}
 use Rattle.mm_formula_text.proofs.term.Parts.mention.Goals as goal
 
 pub push-requires : goal.push-requires

@@ -1,6 +1,6 @@
 use Rattle.std.proofs.Common.{◌∙◌, sym, length}
 use Rattle.std.proofs.lemmas.Bool.{eqb-true, eqb-false}
-use Rattle.mm_formula_text.proofs.TokenLaws.{ends, goes_on, from}
+use Rattle.mm_formula_text.proofs.TokenLemmas.{ends, goes_on, from}
 use Rattle.mm_formula_text.proofs.token.Tokens.next.Goals as goal
 
 pub returns-then-is_empty : goal.returns-then-is_empty

@@ -2,10 +2,10 @@ use Rattle.std.proofs.Common.{ℕ, ◌-◌, ◌<◌, ◌≤◌, List, ◌++◌, 
 use Rattle.std.proofs.lemmas.Result.{on_ok_weaker, on_err_weaker}
 use Rattle.mm_lines.specs.Lines.{most_bytes, settled}
 use Rattle.mm_job.specs.Jobs.{Grew, GrewByFront, progress, with_piece}
-use Rattle.mm_job.specs.Output.{Over, settled_output, status_of, told}
+use Rattle.mm_job.specs.Output.{Over, settled_output, status_of, written_lines}
 use Rattle.mm_job.specs.Standing.{written_at}
 use Rattle.mm_job.specs.declared.progress.Progress.TheVariants.{Ended}
-use Rattle.mm_job.proofs.JobLaws.{fits, last_output, last_progress, room_of, value_as}
+use Rattle.mm_job.proofs.JobLemmas.{fits, last_output, last_progress, room_of, value_as}
 use Rattle.mm_job.proofs.job.Job.feed.Goals as goal
 
 pub returns-then-piece-room-clause-progress : goal.returns-then-piece-room-clause-progress
@@ -14,7 +14,7 @@ returns-then-piece-room-clause-progress g c =
     let piece = c.args.piece.now in
     let room = most_bytes - c.self.inside.taken in
     let long : room < length piece = omega (arith, c.if-piece-room.true) in
-    value_as (Ended (status_of (told s.limit Over (settled (s.text ++ take room piece))))) (progress (with_piece s.text piece) s.limit) c.feed_last.result
+    value_as (Ended (status_of (written_lines s.limit Over (settled (s.text ++ take room piece))))) (progress (with_piece s.text piece) s.limit) c.feed_last.result
     (last_progress s room piece (room_of c.self.inside s c.self.view_is c.requires.live c.self.invariant) long) c.feed_last.ensures.progress
 
 pub returns-then-piece-room-clause-wrote : goal.returns-then-piece-room-clause-wrote

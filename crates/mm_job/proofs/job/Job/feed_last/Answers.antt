@@ -1,7 +1,7 @@
 use Rattle.std.proofs.Common.{List, ℕ}
 use Rattle.mm_job.specs.Jobs.{Grew, GrewByFront}
-use Rattle.mm_job.proofs.FeedLaws.{on_err}
-use Rattle.mm_job.proofs.JobLaws.{last_of_state}
+use Rattle.mm_job.proofs.FeedLemmas.{on_err}
+use Rattle.mm_job.proofs.JobLemmas.{last_of_state}
 use Rattle.mm_job.proofs.job.Job.feed_last.Goals as goal
 
 pub returns-in_err-status-clause-front : goal.returns-in_err-status-clause-front

@@ -1,5 +1,5 @@
 use Rattle.std.proofs.Common.{refl}
-use Rattle.mm_job.proofs.JobLaws.{first_live}
+use Rattle.mm_job.proofs.JobLemmas.{first_live}
 use Rattle.mm_job.proofs.job.Job.new.Goals as goal
 
 pub invariant_of-result : goal.invariant_of-result

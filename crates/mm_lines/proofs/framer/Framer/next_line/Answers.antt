@@ -1,7 +1,7 @@
 use Rattle.std.proofs.Common.{◌≡◌, ◌∙◌, List, ℕ, sym, ap, subst, arith, []}
 use Rattle.mm_lines.specs.Places.{Goes, IsPlace, found_in, lines_from}
 use Rattle.mm_lines.specs.Streams.{next_of}
-use Rattle.mm_lines.proofs.FramerLaws.{next_is_none, next_is_line, reads_next}
+use Rattle.mm_lines.proofs.FramerLemmas.{next_is_none, next_is_line, reads_next}
 use Rattle.mm_lines.proofs.framer.Framer.next_line.Goals as goal
 
 pub returns-in_default-clause-line : goal.returns-in_default-clause-line

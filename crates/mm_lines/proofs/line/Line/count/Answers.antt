@@ -1,7 +1,7 @@
 use Rattle.std.proofs.Common.{◌≡◌, ◌∷◌, length, ap, arith}
 use Rattle.mm_lines.specs.Tokens.{tokens}
 use Rattle.mm_lines.specs.LineBytes.{bytes_of}
-use Rattle.mm_lines.proofs.TokenLaws.{tokens_are_few}
+use Rattle.mm_lines.proofs.TokenLemmas.{tokens_are_few}
 use Rattle.mm_lines.proofs.line.Line.count.Goals as goal
 
 pub overflow_add-count : goal.overflow_add-count

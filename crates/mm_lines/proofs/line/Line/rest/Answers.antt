@@ -1,7 +1,7 @@
 use Rattle.std.proofs.Common.{◌≡◌, ◌∙◌, ap, arith}
 use Rattle.std.proofs.lemmas.Bool.Decides.{nat_tests}
 use Rattle.mm_lines.specs.Tokens.{rest_of, skip_tokens, trim_end}
-use Rattle.mm_lines.proofs.SkipLaws.{skip_nothing, skip_no_token}
+use Rattle.mm_lines.proofs.SkipLemmas.{skip_nothing, skip_no_token}
 use Rattle.mm_lines.proofs.line.Line.rest.Goals as goal
 use Rattle.mm_lines.proofs.line.Line.rest.Goals.{then-tokens-test+else-not-is_empty, else-tokens-test}
 

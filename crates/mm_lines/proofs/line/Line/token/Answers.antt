@@ -1,7 +1,7 @@
 use Rattle.std.proofs.Common.{◌≡◌, ◌∙◌, ℕ, drop, ap, sym, arith}
 use Rattle.mm_lines.specs.Tokens.{tokens}
 use Rattle.mm_lines.specs.LineBytes.{bytes_of}
-use Rattle.mm_lines.proofs.FramerLaws.{drop_next, get_none, get_by_cursor}
+use Rattle.mm_lines.proofs.FramerLemmas.{drop_next, get_none, get_by_cursor}
 use Rattle.mm_lines.proofs.line.Line.token.Goals as goal
 
 pub returns-in_default : goal.returns-in_default

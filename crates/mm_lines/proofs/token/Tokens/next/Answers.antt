@@ -2,7 +2,7 @@ use Rattle.std.proofs.Common.{◌≡◌, ◌+◌, ◌<◌, List, ℕ, ◌∷◌,
 use Rattle.std.proofs.lemmas.Bool.Decides.{nat_tests}
 use Rattle.std.proofs.lemmas.List.{take_rest}
 use Rattle.mm_lines.specs.Tokens.{tokens}
-use Rattle.mm_lines.proofs.TokenLaws.{token_first, tokens_empty}
+use Rattle.mm_lines.proofs.TokenLemmas.{token_first, tokens_empty}
 use Rattle.mm_lines.proofs.token.Tokens.next.Goals as goal
 
 pub returns-then-is_empty : goal.returns-then-is_empty

@@ -2,7 +2,7 @@ use Rattle.std.proofs.Common.{ℕ, List, sym, subst, arith, true, false}
 use Rattle.std.proofs.lemmas.List.{take_all}
 use Rattle.std.proofs.lemmas.Bool.{both_ways}
 use Rattle.mm_field.specs.Vectors.{InSpan, IsWithin}
-use Rattle.mm_matrix.proofs.ReducedLaws.{within_more}
+use Rattle.mm_matrix.proofs.ReducedLemmas.{within_more}
 use Rattle.mm_matrix.proofs.echelon.Echelon.first_outside.Goals as goal
 
 pub loop-i-preserved : goal.loop-i-preserved

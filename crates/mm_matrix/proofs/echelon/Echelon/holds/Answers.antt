@@ -4,9 +4,9 @@ use Rattle.std.specs.Option.{MatchOption}
 use Rattle.mm_field.specs.Vectors.{IsVector, InSpan}
 use Rattle.mm_matrix.specs.declared.elimination.NewRow.{NewRow}
 use Rattle.mm_matrix.specs.MatrixValue.{MatrixValue}
-use Rattle.mm_matrix.specs.Rests.{AddsAs}
-use Rattle.mm_matrix.proofs.RowLaws.{digits_of}
-use Rattle.mm_matrix.proofs.ReducedLaws.{no_new_decides}
+use Rattle.mm_matrix.specs.Residues.{AddsAs}
+use Rattle.mm_matrix.proofs.RowLemmas.{digits_of}
+use Rattle.mm_matrix.proofs.ReducedLemmas.{no_new_decides}
 use Rattle.mm_matrix.proofs.echelon.Echelon.holds.Goals as goal
 
 pub returns : goal.returns

@@ -3,12 +3,12 @@ use Rattle.std.proofs.lemmas.List.{take_more, take_all}
 use Rattle.std.proofs.lemmas.List.Elements.{All-take}
 use Rattle.mm_field.specs.declared.Field.{Field}
 use Rattle.mm_field.specs.Vectors.{IsVector, SameRowSpace}
-use Rattle.mm_linear.specs.LeftRows.{reduced_basis}
-use Rattle.mm_linear.proofs.LeftRowsLaws.{reduced_basis_is}
+use Rattle.mm_linear.specs.ReducedEchelon.{reduced_basis}
+use Rattle.mm_linear.proofs.ReducedEchelonLemmas.{reduced_basis_is}
 use Rattle.mm_linear.proofs.LeftUnique.{basis_of_none}
 use Rattle.mm_matrix.specs.MatrixValue.{MatrixValue}
-use Rattle.mm_matrix.proofs.RowLaws.{digits_of}
-use Rattle.mm_matrix.proofs.ReducedLaws.{basis_of_one_more}
+use Rattle.mm_matrix.proofs.RowLemmas.{digits_of}
+use Rattle.mm_matrix.proofs.ReducedLemmas.{basis_of_one_more}
 use Rattle.mm_matrix.proofs.echelon.Echelon.of.Goals as goal
 
 pub loop-i-init : goal.loop-i-init

@@ -1,5 +1,5 @@
 use Rattle.std.proofs.Common.{◌≡◌, take}
-use Rattle.mm_linear.specs.LeftRows.{reduced_basis}
+use Rattle.mm_linear.specs.ReducedEchelon.{reduced_basis}
 use Rattle.mm_matrix.proofs.echelon.Echelon.of.Given as goal
 
 abbrev pub invariant-loop-i : goal.invariant-loop-i

@@ -1,12 +1,12 @@
 use Rattle.std.proofs.Common.{ℕ, ◌≡◌, List, ◌∷◌, length, map, sym, ap, ◌∙◌, subst, Option}
 use Rattle.std.specs.Option.{MatchOption}
 use Rattle.mm_field.specs.Vectors.{IsVector, InSpan, SameRowSpace}
-use Rattle.mm_linear.specs.LeftRows.{reduced_basis}
+use Rattle.mm_linear.specs.ReducedEchelon.{reduced_basis}
 use Rattle.mm_matrix.specs.declared.elimination.NewRow.{NewRow}
 use Rattle.mm_matrix.specs.MatrixValue.{MatrixValue}
-use Rattle.mm_matrix.specs.Rests.{AreReduced, AddsAs}
-use Rattle.mm_matrix.proofs.RowLaws.{digits_of}
-use Rattle.mm_matrix.proofs.ReducedLaws.{basis_kept, basis_made}
+use Rattle.mm_matrix.specs.Residues.{AreReduced, AddsAs}
+use Rattle.mm_matrix.proofs.RowLemmas.{digits_of}
+use Rattle.mm_matrix.proofs.ReducedLemmas.{basis_kept, basis_made}
 use Rattle.mm_matrix.proofs.echelon.Echelon.with.Goals as goal
 
 pub returns-in_default : goal.returns-in_default

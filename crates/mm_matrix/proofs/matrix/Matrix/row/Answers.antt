@@ -2,7 +2,7 @@ use Rattle.std.proofs.Common.{◌<◌, ◌∙◌, length, ap, sym, subst, arith,
 use Rattle.std.proofs.lemmas.List.{length-map}
 use Rattle.mm_field.specs.Vectors.{IsVector}
 use Rattle.mm_matrix.specs.MatrixValue.{MatrixValue}
-use Rattle.mm_matrix.proofs.RowLaws.{digits_of, item_vector}
+use Rattle.mm_matrix.proofs.RowLemmas.{digits_of, item_vector}
 use Rattle.mm_matrix.proofs.matrix.Matrix.row.Goals as goal
 
 pub returns-clause-vector : goal.returns-clause-vector

@@ -6,7 +6,7 @@ use Rattle.mm_field.specs.declared.Field.{Field}
 use Rattle.mm_field.specs.Digits.{order}
 use Rattle.mm_field.specs.Vectors.{IsVector}
 use Rattle.mm_matrix.specs.MatrixValue.{MatrixValue}
-use Rattle.mm_matrix.proofs.RowLaws.{digits_of, item_is, item_vector, IsVector-set, AreVectors-set}
+use Rattle.mm_matrix.proofs.RowLemmas.{digits_of, item_is, item_vector, IsVector-set, AreVectors-set}
 use Rattle.mm_matrix.proofs.matrix.Matrix.set.Goals as goal
 
 pub index_mut-row-requires : goal.index_mut-row-requires

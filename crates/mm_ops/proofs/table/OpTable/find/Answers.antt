@@ -1,6 +1,6 @@
 use Rattle.std.proofs.Common.{ap, ◌∙◌}
 use Rattle.mm_ops.specs.Tables.{op_named}
-use Rattle.mm_ops.proofs.TableLaws.{lookup_is}
+use Rattle.mm_ops.proofs.TableLemmas.{lookup_is}
 use Rattle.mm_ops.proofs.table.OpTable.find.Goals as goal
 
 pub returns : goal.returns

@@ -3,7 +3,7 @@ use Rattle.std.specs.Prelude.{All}
 use Rattle.std.proofs.lemmas.List.Elements.{All-append, All-cons, All-nil}
 use Rattle.mm_field.specs.Vectors.{AreDigits}
 use Rattle.mm_space.specs.VectorText.{IsVectorText, gen_text}
-use Rattle.mm_space.proofs.GenTextLaws.{Remains, at_slash, front_text, front_text-push, front_text-end, remains_next, vector_before, vector_at_end}
+use Rattle.mm_space.proofs.GenTextLemmas.{Remains, at_slash, front_text, front_text-push, front_text-end, remains_next, vector_before, vector_at_end}
 use Rattle.mm_space.proofs.generator.Gen.read_rows.Goals as goal
 
 pub returns-in-None-read-clause-none : goal.returns-in-None-read-clause-none

@@ -2,7 +2,7 @@ use Rattle.std.proofs.Common.{ℕ, ◌≡◌, ◌≤◌, List, length}
 use Rattle.std.specs.Prelude.{All}
 use Rattle.mm_field.specs.Vectors.{AreDigits}
 use Rattle.mm_space.specs.VectorText.{IsGenText}
-use Rattle.mm_space.proofs.GenTextLaws.{front_text, Remains}
+use Rattle.mm_space.proofs.GenTextLemmas.{front_text, Remains}
 use Rattle.mm_space.proofs.generator.Gen.read_rows.Given as goal
 
 abbrev pub invariant-loop-k : goal.invariant-loop-k

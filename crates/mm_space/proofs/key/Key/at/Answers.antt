@@ -1,6 +1,6 @@
 use Rattle.std.proofs.Common.{◌+◌, ◌*◌, ◌≡◌, ◌<◌, [], get_or, length, subst, sym, ap, ◌∙◌}
 use Rattle.mm_space.specs.KeyValue.{KeyValue, digit_at}
-use Rattle.mm_space.proofs.PackLaws.{unpacked-get}
+use Rattle.mm_space.proofs.PackLemmas.{unpacked-get}
 use Rattle.mm_space.proofs.key.Key.at.Goals as goal
 
 pub returns : goal.returns

@@ -1,7 +1,7 @@
 use Rattle.std.proofs.Common.{subst}
 use Rattle.mm_space.specs.KeyValue.{KeyValue}
 use Rattle.mm_space.specs.KeyView.{IsReduced}
-use Rattle.mm_space.proofs.EqualLaws.{equal_keys}
+use Rattle.mm_space.proofs.EqualLemmas.{equal_keys}
 use Rattle.mm_space.proofs.key.Key.equal_by_vectors.Goals as goal
 
 pub returns : goal.returns

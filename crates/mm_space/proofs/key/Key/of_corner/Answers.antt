@@ -1,7 +1,7 @@
 use Rattle.std.proofs.Common.{arith, sym, ap, ◌∙◌, subst, map, reverse}
 use Rattle.mm_space.specs.SpaceValue.{corner}
 use Rattle.mm_space.specs.KeyValue.{IsKeyOf, unpacked}
-use Rattle.mm_space.proofs.PackLaws.{unpacked-packed}
+use Rattle.mm_space.proofs.PackLemmas.{unpacked-packed}
 use Rattle.mm_space.proofs.PackSteps.{corner_basis, corner_key, packed_of, packs_corner}
 use Rattle.mm_space.proofs.key.Key.of_corner.Goals as goal
 

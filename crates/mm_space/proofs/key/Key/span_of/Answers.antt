@@ -1,7 +1,7 @@
 use Rattle.std.proofs.Common.{subst, [], refl}
 use Rattle.mm_space.specs.SpaceValue.{IsSpanOf}
 use Rattle.mm_space.specs.Preimages.{IsHead}
-use Rattle.mm_space.proofs.HeadLaws.{span_of_one}
+use Rattle.mm_space.proofs.HeadLemmas.{span_of_one}
 use Rattle.mm_space.proofs.key.Key.span_of.Goals as goal
 
 pub returns : goal.returns

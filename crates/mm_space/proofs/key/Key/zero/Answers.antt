@@ -1,6 +1,6 @@
 use Rattle.std.proofs.Common.{subst, sym, ap, ◌∙◌, []}
 use Rattle.mm_space.specs.KeyValue.{IsKeyOf, unpacked}
-use Rattle.mm_space.proofs.PackLaws.{unpacked-packed}
+use Rattle.mm_space.proofs.PackLemmas.{unpacked-packed}
 use Rattle.mm_space.proofs.PackSteps.{no_rows, zero_key, packed_of, packs_zero}
 use Rattle.mm_space.proofs.key.Key.zero.Goals as goal
 

@@ -2,7 +2,7 @@ use Rattle.std.proofs.Common.{sym, subst, ap, ◌∙◌, ◌∷◌}
 use Rattle.mm_field.specs.Vectors.{AreDigits}
 use Rattle.mm_space.specs.SpaceValue.{SpaceValue, IsSpanOf, corner}
 use Rattle.mm_space.specs.Insertion.{IsInserted}
-use Rattle.mm_space.proofs.KeptLaws.{held_of, kept_of, inserted_held, span_of_inserted}
+use Rattle.mm_space.proofs.KeptLemmas.{held_of, kept_of, inserted_held, span_of_inserted}
 use Rattle.mm_space.proofs.space.Space.add_vector.Goals as goal
 
 pub invariant_of-self : goal.invariant_of-self

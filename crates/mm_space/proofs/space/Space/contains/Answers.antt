@@ -2,7 +2,7 @@ use Rattle.std.proofs.Common.{sym, subst, ap, ◌∙◌, ◌↔◌}
 use Rattle.std.specs.Prelude.{IsTrue}
 use Rattle.mm_field.specs.Vectors.{AreDigits, InSpan}
 use Rattle.mm_space.specs.SpaceValue.{SpaceValue, IsIn}
-use Rattle.mm_space.proofs.KeptLaws.{held_of, holds_of}
+use Rattle.mm_space.proofs.KeptLemmas.{held_of, holds_of}
 use Rattle.mm_space.proofs.space.Space.contains.Goals as goal
 
 pub returns : goal.returns

@@ -1,9 +1,9 @@
 use Rattle.std.proofs.Common.{subst}
 use Rattle.mm_linear.specs.Echelons.{IsEchelon}
-use Rattle.mm_linear.proofs.HeadLaws.{IsEchelon-head}
+use Rattle.mm_linear.proofs.HeadLemmas.{IsEchelon-head}
 use Rattle.mm_space.specs.SpaceValue.{SpaceValue}
-use Rattle.mm_space.proofs.KeptLaws.{held_of}
-use Rattle.mm_space.proofs.EqualLaws.{equal_spaces}
+use Rattle.mm_space.proofs.KeptLemmas.{held_of}
+use Rattle.mm_space.proofs.EqualLemmas.{equal_spaces}
 use Rattle.mm_space.proofs.space.Space.equal_by_vectors.Goals as goal
 
 pub returns : goal.returns

@@ -3,7 +3,7 @@ use Rattle.mm_field.specs.Vectors.{AreVectors}
 use Rattle.mm_linear.proofs.FirstUnits.{first_units, first_units_count}
 use Rattle.mm_space.specs.SpaceValue.{SpaceValue}
 use Rattle.mm_space.specs.Preimages.{IsPreimage}
-use Rattle.mm_space.proofs.HeadLaws.{first_units_vectors, head_of_preimage}
+use Rattle.mm_space.proofs.HeadLemmas.{first_units_vectors, head_of_preimage}
 use Rattle.mm_space.proofs.space.Space.head.Goals as goal
 
 pub preimage-requires-clause-count : goal.preimage-requires-clause-count

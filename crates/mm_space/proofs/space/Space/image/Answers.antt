@@ -1,8 +1,8 @@
 use Rattle.std.proofs.Common.{arith}
 use Rattle.mm_space.specs.SpaceValue.{SpaceValue, corner}
-use Rattle.mm_space.proofs.KeptLaws.{kept_of}
+use Rattle.mm_space.proofs.KeptLemmas.{kept_of}
 use Rattle.mm_space.proofs.Gathering.{image_is}
-use Rattle.mm_space.proofs.EqualLaws.{images_of}
+use Rattle.mm_space.proofs.EqualLemmas.{images_of}
 use Rattle.mm_space.proofs.space.Space.image.Goals as goal
 
 pub invariant_of-space : goal.invariant_of-space

@@ -2,8 +2,8 @@ use Rattle.std.proofs.Common.{sym, subst}
 use Rattle.mm_field.specs.Vectors.{AreVectors}
 use Rattle.mm_space.specs.SpaceValue.{SpaceValue}
 use Rattle.mm_space.specs.Preimages.{IsPreimage}
-use Rattle.mm_space.proofs.KeptLaws.{held_of}
-use Rattle.mm_space.proofs.PreimageLaws.{preimage_of_corner}
+use Rattle.mm_space.proofs.KeptLemmas.{held_of}
+use Rattle.mm_space.proofs.PreimageLemmas.{preimage_of_corner}
 use Rattle.mm_space.proofs.space.Space.preimage.Goals as goal
 
 pub returns : goal.returns

@@ -1,5 +1,5 @@
 use Rattle.std.proofs.Common.{arith, ◌≤◌}
-use Rattle.mm_space.proofs.KeptLaws.{kept_of, zero_held, span_of_zero}
+use Rattle.mm_space.proofs.KeptLemmas.{kept_of, zero_held, span_of_zero}
 use Rattle.mm_space.proofs.space.Space.zero.Goals as goal
 
 pub invariant_of-result : goal.invariant_of-result

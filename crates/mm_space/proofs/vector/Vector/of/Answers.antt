@@ -1,6 +1,6 @@
 use Rattle.std.proofs.Common.{◌≡◌, arith, length, ap₂}
 use Rattle.std.proofs.lemmas.List.{length-take-le}
-use Rattle.mm_space.proofs.TextLaws.{stored_back}
+use Rattle.mm_space.proofs.TextLemmas.{stored_back}
 use Rattle.mm_space.proofs.vector.Vector.of.Goals as goal
 
 pub invariant_of-result : goal.invariant_of-result

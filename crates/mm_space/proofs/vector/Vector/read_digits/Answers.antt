@@ -1,8 +1,8 @@
 use Rattle.std.proofs.Common.{◌+◌, ◌≡◌, ◌<◌, arith, get_or, length, take, sym, subst, ap, ◌∙◌, length-set}
 use Rattle.std.proofs.lemmas.List.{length-take-le, get_or-take, get_or-set_other}
-use Rattle.mm_linear.proofs.SpaceLaws.{false_true}
+use Rattle.mm_linear.proofs.SpaceLemmas.{false_true}
 use Rattle.mm_field.specs.Digits.{order}
-use Rattle.mm_space.proofs.TextLaws.{text_of_digits, digits_of_text, one_digit_more}
+use Rattle.mm_space.proofs.TextLemmas.{text_of_digits, digits_of_text, one_digit_more}
 use Rattle.mm_space.proofs.vector.Vector.read_digits.Goals as goal
 
 pub returns-in-None-clause-none : goal.returns-in-None-clause-none

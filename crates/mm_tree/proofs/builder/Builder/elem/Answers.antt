@@ -1,6 +1,6 @@
 use Rattle.std.proofs.Common.{rules, ap}
 use Rattle.mm_tree.specs.Building.{BuilderValue}
-use Rattle.mm_tree.proofs.BuilderLaws.{good_elem}
+use Rattle.mm_tree.proofs.BuilderLemmas.{good_elem}
 use Rattle.mm_tree.proofs.builder.Builder.elem.Goals as goal
 
 pub push_leaf-requires : goal.push_leaf-requires

@@ -3,13 +3,13 @@ use Rattle.std.specs.List.{All, IsDistinct}
 use Rattle.std.specs.Str.{bytes_eq}
 use Rattle.std.proofs.lemmas.List.Elements.{All-nil}
 use Rattle.mm_tree.specs.Building.{BuilderValue, names_in}
-use Rattle.mm_tree.specs.BuilderView.{IsGrown, trees_of}
+use Rattle.mm_tree.specs.BuilderView.{IsStackEntry, trees_of}
 use Rattle.mm_tree.specs.Nodes.{named, IsOver}
 use Rattle.mm_tree.specs.ValidTree.{most_leaves}
-use Rattle.mm_tree.specs.declared.builder.Grown.{Grown}
+use Rattle.mm_tree.specs.declared.builder.StackEntry.{StackEntry}
 use Rattle.mm_tree.specs.declared.node.Node.{Node}
-use Rattle.mm_tree.proofs.TreeLaws.{over_field}
-use Rattle.mm_tree.proofs.BuilderLaws.{none_distinct, alone_there, one_tree, one_grown, grown_stands}
+use Rattle.mm_tree.proofs.TreeLemmas.{over_field}
+use Rattle.mm_tree.proofs.BuilderLemmas.{none_distinct, alone_there, one_tree, one_grown, grown_stands}
 use Rattle.mm_tree.proofs.builder.Builder.finish.Goals as goal
 
 pub invariant_of-result : goal.invariant_of-result
@@ -33,8 +33,8 @@ invariant_of-self-2 c =
     let none = alone_there c.self.inside.trees.items rest g split one in
     let keys : c.clear.new.self.keys ≡ [] = search rules in
     record {
-      each = subst (λ (xs : List Grown). All (λ g. IsGrown c.self.inside.field g) xs) (sym none) (All-nil (λ g. IsGrown c.self.inside.field g));
-      names = keys ∙ sym (ap (λ (xs : List Grown). names_in (trees_of xs)) none);
+      each = subst (λ (xs : List StackEntry). All (λ g. IsStackEntry c.self.inside.field g) xs) (sym none) (All-nil (λ g. IsStackEntry c.self.inside.field g));
+      names = keys ∙ sym (ap (λ (xs : List StackEntry). names_in (trees_of xs)) none);
       different = subst (λ (ns : List (List ℕ)). IsDistinct bytes_eq ns) (sym keys) none_distinct;
       few = subst (λ (ns : List (List ℕ)). length ns ≤ most_leaves) (sym keys) (omega arith);
     }

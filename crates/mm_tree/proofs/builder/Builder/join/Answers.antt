@@ -1,5 +1,5 @@
 use Rattle.std.proofs.Common.{sym, ◌∙◌}
-use Rattle.mm_tree.proofs.BuilderLaws.{over_named}
+use Rattle.mm_tree.proofs.BuilderLemmas.{over_named}
 use Rattle.mm_tree.proofs.builder.Builder.join.Goals as goal
 
 pub join_by-requires : goal.join_by-requires

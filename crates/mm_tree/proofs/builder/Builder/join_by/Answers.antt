@@ -3,9 +3,9 @@ use Rattle.std.specs.Box.{with_value}
 use Rattle.mm_field.specs.declared.Field.{Field}
 use Rattle.mm_tree.specs.Building.{BuilderValue, join_fault, joined}
 use Rattle.mm_tree.specs.NamedTree.{Tree}
-use Rattle.mm_tree.specs.declared.builder.Grown.{Grown}
+use Rattle.mm_tree.specs.declared.builder.StackEntry.{StackEntry}
 use Rattle.mm_tree.specs.declared.node.Node.TheViews as views
-use Rattle.mm_tree.proofs.BuilderLaws.{all_after, names_after, joined_trees}
+use Rattle.mm_tree.proofs.BuilderLemmas.{all_after, names_after, joined_trees}
 use Rattle.mm_tree.proofs.builder.Builder.join_by.Goals as goal
 
 pub invariant_of-self-2 : goal.invariant_of-self-2
@@ -17,7 +17,7 @@ invariant_of-self-2 c =
     let now = c.push.new.self.items in
     let r = c.in-Some-pop.right in
     let l = c.in-Some-pop-2.left in
-    let g : Grown = record { node = with_value c.in-Ok.node (views.Join c.args.name c.args.op l.node r.node); depth = c.max-depth.result + 1 } in
+    let g : StackEntry = record { node = with_value c.in-Ok.node (views.Join c.args.name c.args.op l.node r.node); depth = c.max-depth.result + 1 } in
     let field = ap (λ (v : BuilderValue). v.f) c.self.view_is in
     let trees = ap (λ (v : BuilderValue). v.trees) c.self.view_is in
     let last : items ≡ rest ++ r ∷ [] = search rules in
@@ -40,7 +40,7 @@ returns-clause-ok c =
     let now = c.push.new.self.items in
     let r = c.in-Some-pop.right in
     let l = c.in-Some-pop-2.left in
-    let g : Grown = record { node = with_value c.in-Ok.node (views.Join c.args.name c.args.op l.node r.node); depth = c.max-depth.result + 1 } in
+    let g : StackEntry = record { node = with_value c.in-Ok.node (views.Join c.args.name c.args.op l.node r.node); depth = c.max-depth.result + 1 } in
     let last : items ≡ rest ++ r ∷ [] = search rules in
     let before : rest ≡ front ++ l ∷ [] = search rules in
     let after : now ≡ front ++ g ∷ [] = search rules in

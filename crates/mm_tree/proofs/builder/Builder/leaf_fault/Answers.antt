@@ -3,7 +3,7 @@ use Rattle.std.proofs.lemmas.Bool.{le-leb, lt-leb}
 use Rattle.mm_tree.specs.Building.{BuilderValue, names_in}
 use Rattle.mm_tree.specs.NamedTree.{is_one_of}
 use Rattle.mm_tree.specs.ValidTree.{most_leaves}
-use Rattle.mm_tree.proofs.BuilderLaws.{any_name, taken_fault, full_fault, no_leaf_fault}
+use Rattle.mm_tree.proofs.BuilderLemmas.{any_name, taken_fault, full_fault, no_leaf_fault}
 use Rattle.mm_tree.proofs.builder.Builder.leaf_fault.Goals as goal
 
 pub returns-then-contains : goal.returns-then-contains

@@ -1,6 +1,6 @@
 use Rattle.std.proofs.Common.{ap}
 use Rattle.mm_tree.specs.Building.{BuilderValue}
-use Rattle.mm_tree.proofs.BuilderLaws.{good_void}
+use Rattle.mm_tree.proofs.BuilderLemmas.{good_void}
 use Rattle.mm_tree.proofs.builder.Builder.void.Goals as goal
 
 pub push_leaf-requires : goal.push_leaf-requires

@@ -1,5 +1,5 @@
 use Rattle.mm_tree.specs.Nodes.{named, field_of}
-use Rattle.mm_tree.proofs.TreeLaws.{few_nodes}
+use Rattle.mm_tree.proofs.TreeLemmas.{few_nodes}
 use Rattle.mm_tree.proofs.tree.Tree.nodes.Goals as goal
 
 pub nodes-requires : goal.nodes-requires

@@ -5,9 +5,9 @@ use Rattle.mm_tree.specs.Steps.{IsReweighted}
 use Rattle.mm_tree.specs.TreeValue.{TreeValue}
 use Rattle.mm_tree.specs.TreeView.{Stands}
 use Rattle.mm_tree.specs.ValidTree.{IsValidTree}
-use Rattle.mm_tree.specs.Ways.{with_weight}
+use Rattle.mm_tree.specs.Paths.{with_weight}
 use Rattle.mm_tree.specs.declared.node.Node.{Node}
-use Rattle.mm_tree.proofs.TreeLaws.{first_is_only, valid_weight, stands}
+use Rattle.mm_tree.proofs.TreeLemmas.{first_is_only, valid_weight, stands}
 use Rattle.mm_tree.proofs.tree.Tree.set_weight.Goals as goal
 
 changed : {found : _} (name : List ℕ) (weight v : ℤ) (old new : Node) → v ≡ weight → Stands (field_of old) old →

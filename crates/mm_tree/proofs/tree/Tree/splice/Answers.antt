@@ -2,7 +2,7 @@ use Rattle.std.proofs.Common.{ℕ, ◌≡◌, ◌<◌, sym, ap, ◌∙◌, subst
 use Rattle.mm_field.specs.declared.Field.{Field}
 use Rattle.mm_tree.specs.NamedTree.{Tree, nodes}
 use Rattle.mm_tree.specs.Nodes.{named, field_of, IsOver}
-use Rattle.mm_tree.specs.Places.{way_of}
+use Rattle.mm_tree.specs.Places.{path_of}
 use Rattle.mm_tree.specs.Replacing.{replace_fault}
 use Rattle.mm_tree.specs.Steps.{IsExchanged, IsSpliced}
 use Rattle.mm_tree.specs.TreeValue.{TreeValue}
@@ -11,7 +11,7 @@ use Rattle.mm_tree.specs.ValidTree.{IsValidTree}
 use Rattle.mm_tree.specs.declared.node.Node.{Node}
 use Rattle.mm_tree.specs.declared.splice.Spliced.{Spliced}
 use Rattle.mm_tree.specs.declared.splice.Spliced.TheVariants.{Done, NotHere}
-use Rattle.mm_tree.proofs.TreeLaws.{valid_part, valid_exchange, stands, over_field}
+use Rattle.mm_tree.proofs.TreeLemmas.{valid_part, valid_exchange, stands, over_field}
 use Rattle.mm_tree.proofs.tree.Tree.splice.Goals as goal
 
 done : (old now new out : Node) (at : ℕ) (found : Spliced) → IsSpliced old now at new found → at < nodes (named old) →
@@ -38,24 +38,24 @@ new_valid : (old new : Node) (before after : TreeValue) → field_of old ≡ bef
 new_valid old new before after a b e s = subst (λ (g : Field). IsValidTree g (named new)) (b ∙ e ∙ sym a) s.valid
 
 no_fault : (old new : Node) (at place : ℕ) (before after : TreeValue) → at ≡ place → named old ≡ before.tree → named new ≡ after.tree →
-    replace_fault before.tree (way_of place before.tree) after.tree ≡ None → replace_fault (named old) (way_of at (named old)) (named new) ≡ None
+    replace_fault before.tree (path_of place before.tree) after.tree ≡ None → replace_fault (named old) (path_of at (named old)) (named new) ≡ None
 no_fault old new at place before after e p q f =
-    ap (λ (k : ℕ). replace_fault (named old) (way_of k (named old)) (named new)) e
-    ∙ ap (λ (t : Tree). replace_fault t (way_of place t) (named new)) p ∙ ap (λ (t : Tree). replace_fault before.tree (way_of place before.tree) t) q ∙ f
+    ap (λ (k : ℕ). replace_fault (named old) (path_of k (named old)) (named new)) e
+    ∙ ap (λ (t : Tree). replace_fault t (path_of place t) (named new)) p ∙ ap (λ (t : Tree). replace_fault before.tree (path_of place before.tree) t) q ∙ f
 
 whole : (old now new out : Node) (at place : ℕ) (found : Spliced) (before after : TreeValue) → IsSpliced old now at new found → at ≡ place →
     field_of old ≡ before.f → named old ≡ before.tree → field_of new ≡ after.f → named new ≡ after.tree → after.f ≡ before.f →
     place < nodes before.tree → (found ≡ Done out) ⊎ ((x : ℕ) × (found ≡ NotHere out x)) →
-    replace_fault before.tree (way_of place before.tree) after.tree ≡ None → Stands (field_of old) old → Stands (field_of new) new →
+    replace_fault before.tree (path_of place before.tree) after.tree ≡ None → Stands (field_of old) old → Stands (field_of new) new →
     IsOver before.f now × IsValidTree before.f (named now) × IsOver before.f out × IsValidTree before.f (named out)
 whole old now new out at place found before after s e a p b q same l is fault so sn =
     let x = exchange old now new out at place found before s e p l is in
     let f = field_of old in
     let o = x.over f so.over (new_over old new before after a b same sn) in
     let now_valid = subst (λ (t : Tree). IsValidTree f t) (sym x.tree)
-    (valid_exchange f (named old) (named new) (way_of at (named old)) so.valid (new_valid old new before after a b same sn)
+    (valid_exchange f (named old) (named new) (path_of at (named old)) so.valid (new_valid old new before after a b same sn)
     (no_fault old new at place before after e p q fault)) in
-    let out_valid = subst (λ (t : Tree). IsValidTree f t) (sym x.old_part) (valid_part f (named old) (way_of at (named old)) so.valid) in (
+    let out_valid = subst (λ (t : Tree). IsValidTree f t) (sym x.old_part) (valid_part f (named old) (path_of at (named old)) so.valid) in (
       subst (λ (g : Field). IsOver g now) a o.0,
       subst (λ (g : Field). IsValidTree g (named now)) a now_valid,
       subst (λ (g : Field). IsOver g out) a o.1,

@@ -4,7 +4,7 @@ use Rattle.std.specs.Option as options
 use Rattle.mm_tree.specs.NamedTree.{element_names, is_one_of}
 use Rattle.mm_tree.specs.TreeValue.{TreeValue}
 use Rattle.mm_tree.specs.Weights.{weight_named}
-use Rattle.mm_tree.proofs.TreeLaws.{has_weight}
+use Rattle.mm_tree.proofs.TreeLemmas.{has_weight}
 use Rattle.mm_tree.proofs.tree.Tree.weight_of.Goals as goal
 
 is_true : (b : Bool) → IsTrue b → b ≡ true

@@ -1,0 +1,339 @@
+-- A job that stands for a text, and was fed the lines of a piece, stands for the text with the piece.
+use Rattle.std.proofs.Common.{◌≡◌, ℕ, ◌+◌, ◌≤◌, Bool, true, false, not, List, [], ◌∷◌, ◌++◌, length, take, drop, Option, Some, None, refl, sym, ap, ◌∙◌, subst, arith}
+use Rattle.std.specs.Prelude.{◌||◌, if◌then◌else◌, IfOk, OnOk, OnErr, Ok, Err}
+use Rattle.std.specs.declared.result.Result.{Result}
+use Rattle.std.specs.List.{list_any}
+use Rattle.std.specs.Io.KnownBytes.{Appends}
+use Rattle.std.proofs.KnownBytes.{Appends-trans}
+use Rattle.std.proofs.lemmas.Bool.{ltb-true}
+use Rattle.std.proofs.lemmas.List.{append_assoc, append-nil, length-append, length-drop, take_all}
+use Rattle.std.proofs.lemmas.Grind.{flat_map-append}
+use Rattle.std.proofs.Math.Seq.{drop-append_seam}
+use Rattle.mm_base.specs.Causes.{GrowsByFront}
+use Rattle.mm_base.specs.declared.status.Status.{Status}
+use Rattle.mm_base.specs.declared.status.Status.TheVariants as status
+use Rattle.mm_base.proofs.FrontLemmas.{front_after}
+use Rattle.mm_lines.specs.Lines.{is_over, lines, lines_of, most_bytes, settled}
+use Rattle.mm_lines.specs.Streams.{Stream}
+use Rattle.mm_lines.specs.declared.line.Line.{Line}
+use Rattle.mm_lines.proofs.FrontLemmas.{lines_go_on}
+use Rattle.mm_job.specs.JobStates.{come_to, is_refused, status_at}
+use Rattle.mm_job.specs.Feeding.{Fed, IsWithin, left}
+use Rattle.mm_job.specs.Jobs.{Grew, GrewByFront, begins_refused}
+use Rattle.mm_job.specs.Output.{Ending, More, Ended, Over, end_of, is_refusal, output, output_lines, printed, printed_all, settled_lines, settled_output, status_of, written_lines}
+use Rattle.mm_job.specs.Stages.{IsKeptAt, lines_from_stage}
+use Rattle.mm_job.specs.Standing.{IsRead, Stands, written_at}
+use Rattle.mm_job.specs.declared.state.JobState.{JobState}
+use Rattle.mm_job.specs.declared.output_line.OutputLine.{OutputLine}
+use Rattle.mm_job.proofs.EndLemmas.{quiet}
+use Rattle.mm_job.proofs.FeedLemmas.{come_on, nothing_written}
+
+-- ---- texts that are not too long
+
+over_is : (text : List ℕ) (c : Bool) → is_over text ≡ c → length text ≤ most_bytes → c ≡ false
+over_is text true p h = absurd (omega (arith, h, ltb-true most_bytes (length text) p))
+over_is text false p h = refl
+
+pub not_over : (text : List ℕ) → length text ≤ most_bytes → is_over text ≡ false
+not_over text h = over_is text (is_over text) refl h
+
+pub settled_is : (text : List ℕ) → length text ≤ most_bytes → settled text ≡ lines_of false text
+unfolding settled
+settled_is text h = ap (lines_of false) (take_all most_bytes text h)
+
+lines_is : (text : List ℕ) → length text ≤ most_bytes → lines text ≡ lines_of true text
+unfolding lines
+lines_is text h = ap (λ (c : Bool). lines_of (not c) (take most_bytes text)) (not_over text h) ∙ ap (lines_of true) (take_all most_bytes text h)
+
+pub settled_at : (limit : ℕ) (text : List ℕ) → length text ≤ most_bytes → settled_lines text limit ≡ written_lines limit More (settled text)
+unfolding settled_lines
+settled_at limit text h = ap (λ (c : Bool). written_lines limit (if c then Over else More) (settled text)) (not_over text h)
+
+pub settled_output_at : (limit : ℕ) (text : List ℕ) → length text ≤ most_bytes → settled_output text limit ≡ written_at More limit text
+settled_output_at limit text h = ap printed_all (settled_at limit text h)
+
+output_at : (limit : ℕ) (text : List ℕ) → length text ≤ most_bytes → output_lines text limit ≡ written_lines limit Ended (lines_of true text)
+unfolding output_lines
+output_at limit text h =
+    ap (λ (c : Bool). written_lines limit (if c then Over else Ended) (lines text)) (not_over text h) ∙ ap (written_lines limit Ended) (lines_is text h)
+
+-- ---- lines of a stream that goes on
+
+-- the lines of the stream with a piece, ended or not
+read_more : (s : Stream) (end : Bool) (piece : List ℕ) → IsRead s → lines_of end (s.bytes ++ piece) ≡ lines_of false s.bytes ++ left (record s { bytes = s.bytes ++ piece; ended = end })
+read_more s end piece read =
+    let p = lines_go_on end s.bytes piece in
+    let xs = lines_of false s.bytes in
+    let rest : drop s.handed (lines_of end (s.bytes ++ piece)) ≡ p.0 =
+    ap (drop s.handed) (sym p.1) ∙ ap (λ (k : ℕ). drop k (xs ++ p.0)) read.all ∙ drop-append_seam xs p.0 in
+    sym p.1 ∙ ap (λ (l : List Line). xs ++ l) (sym rest)
+
+more_within : (s : Stream) (end : Bool) (piece : List ℕ) → IsRead s → s.handed ≤ length (lines_of end (s.bytes ++ piece))
+more_within s end piece read =
+    omega (arith, read.all, ap length (read_more s end piece read), length-append (lines_of false s.bytes) (left (record s { bytes = s.bytes ++ piece; ended = end })))
+
+all_read : (s : Stream) → s.ended ≡ false → IsWithin s → left s ≡ [] → IsRead s
+all_read s going within none =
+    let same : lines_of s.ended s.bytes ≡ lines_of false s.bytes = ap (λ (c : Bool). lines_of c s.bytes) going in
+    record { open_ended = going; all = omega (arith, within, ap length same, ap length none, length-drop s.handed (lines_of s.ended s.bytes)) }
+
+-- ---- steps
+
+-- what is said of all lines of a longer text, by what was fed
+output_line_on : (limit : ℕ) (text : List ℕ) (a b : JobState) (all new lines_new : List Line) (held held_new : Option (List ℕ)) → Stands limit text a → (fed : Fed limit a b new lines_new held held_new)
+    → lines_new ≡ [] → all ≡ settled text ++ new
+    → (e : Ending) (rs : List Line) → written_lines limit e (all ++ rs) ≡ (written_lines limit More (settled text) ++ fed.output_line) ++ lines_from_stage limit b.stage e rs
+output_line_on limit text a b all new lines_new held held_new stands fed none is e rs =
+    let T = written_lines limit More (settled text) in
+    ap (λ (l : List Line). written_lines limit e (l ++ rs)) is
+    ∙ ap (written_lines limit e) (append_assoc (settled text) new rs)
+    ∙ stands.rest e (new ++ rs)
+    ∙ ap (λ (l : List OutputLine). T ++ l) (fed.same e rs ∙ ap (λ (l : List Line). fed.output_line ++ lines_from_stage limit b.stage e (l ++ rs)) none)
+    ∙ sym (append_assoc T fed.output_line (lines_from_stage limit b.stage e rs))
+
+output_line_now : (limit : ℕ) (text : List ℕ) (a b : JobState) (all new lines_new : List Line) (held held_new : Option (List ℕ)) → Stands limit text a → (fed : Fed limit a b new lines_new held held_new)
+    → lines_new ≡ [] → all ≡ settled text ++ new → (e : Ending) → written_lines limit e all ≡ (written_lines limit More (settled text) ++ fed.output_line) ++ lines_from_stage limit b.stage e []
+output_line_now limit text a b all new lines_new held held_new stands fed none is e =
+    ap (written_lines limit e) (sym (append-nil all)) ∙ output_line_on limit text a b all new lines_new held held_new stands fed none is e []
+
+output_line_quiet : (limit : ℕ) (text : List ℕ) (a b : JobState) (all new lines_new : List Line) (held held_new : Option (List ℕ)) → Stands limit text a → (fed : Fed limit a b new lines_new held held_new)
+    → lines_new ≡ [] → all ≡ settled text ++ new → written_lines limit More all ≡ written_lines limit More (settled text) ++ fed.output_line
+output_line_quiet limit text a b all new lines_new held held_new stands fed none is =
+    let X = written_lines limit More (settled text) ++ fed.output_line in
+    output_line_now limit text a b all new lines_new held held_new stands fed none is More ∙ ap (λ (l : List OutputLine). X ++ l) (quiet limit b.stage) ∙ append-nil X
+
+pub stands_next : (limit : ℕ) (text whole : List ℕ) (a b : JobState) (new lines_new : List Line) (held held_new : Option (List ℕ)) → Stands limit text a → Fed limit a b new lines_new held held_new
+    → lines_new ≡ [] → settled whole ≡ settled text ++ new → IsKeptAt b.stage → Stands limit whole b
+stands_next limit text whole a b new lines_new held held_new stands fed none is kept =
+    let T = written_lines limit More (settled text) in
+    let now = output_line_quiet limit text a b (settled whole) new lines_new held held_new stands fed none is in
+    record {
+      kept = kept;
+      rest = λ e rs. output_line_on limit text a b (settled whole) new lines_new held held_new stands fed none is e rs
+          ∙ ap (λ (l : List OutputLine). l ++ lines_from_stage limit b.stage e rs) (sym now);
+      comes = fed.comes ∙ ap (λ (s : Option Status). come_to s fed.output_line) stands.comes ∙ sym (come_on None T fed.output_line) ∙ ap (come_to None) (sym now);
+    }
+
+grew_next : (limit : ℕ) (text whole : List ℕ) (a b : JobState) (new lines_new : List Line) (held held_new : Option (List ℕ)) → Stands limit text a → Fed limit a b new lines_new held held_new
+    → lines_new ≡ [] → settled whole ≡ settled text ++ new → Grew held held_new (written_at More limit text) (written_at More limit whole)
+grew_next limit text whole a b new lines_new held held_new stands fed none is =
+    record {
+      wrote = printed_all fed.output_line;
+      grew = fed.grew;
+      whole = sym (flat_map-append printed (written_lines limit More (settled text)) fed.output_line) ∙ ap printed_all (sym (output_line_quiet limit text a b (settled whole) new lines_new held held_new stands fed none is));
+    }
+
+front_next : (limit : ℕ) (text : List ℕ) (a : JobState) (all new : List Line) (held held_new : Option (List ℕ)) (e : Ending) → Stands limit text a → all ≡ settled text ++ new
+    → GrowsByFront held held_new (printed_all (lines_from_stage limit a.stage e new)) → GrewByFront held held_new (written_at More limit text) (printed_all (written_lines limit e all))
+front_next limit text a all new held held_new e stands is grew =
+    record {
+      rest = printed_all (lines_from_stage limit a.stage e new);
+      grew = grew;
+      whole = sym (flat_map-append printed (written_lines limit More (settled text)) (lines_from_stage limit a.stage e new)) ∙ ap printed_all (sym (ap (written_lines limit e) is ∙ stands.rest e new));
+    }
+
+-- ---- a piece
+
+-- the settled lines of the text with a piece are those of the text and those that are left
+piece_lines : (old mid : Stream) (piece : List ℕ) → IsRead old → length old.bytes + length piece ≤ most_bytes → mid ≡ record old { bytes = old.bytes ++ piece }
+    → settled (old.bytes ++ piece) ≡ settled old.bytes ++ left mid
+piece_lines old mid piece read size is =
+    let going : mid ≡ record old { bytes = old.bytes ++ piece; ended = false } = is ∙ ap (λ (c : Bool). record old { bytes = old.bytes ++ piece; ended = c }) read.open_ended in
+    settled_is (old.bytes ++ piece) (omega (arith, size, length-append old.bytes piece))
+    ∙ read_more old false piece read
+    ∙ ap (λ (s : Stream). lines_of false old.bytes ++ left s) (sym going)
+    ∙ ap (λ (l : List Line). l ++ left mid) (sym (settled_is old.bytes (omega (arith, size))))
+
+pub piece_within : (old mid : Stream) (piece : List ℕ) → IsRead old → mid ≡ record old { bytes = old.bytes ++ piece } → IsWithin mid
+piece_within old mid piece read is =
+    subst IsWithin (sym (is ∙ ap (λ (c : Bool). record old { bytes = old.bytes ++ piece; ended = c }) read.open_ended)) (more_within old false piece read)
+
+pub piece_stands : {E : Type 0} (limit : ℕ) (old mid new : Stream) (piece : List ℕ) (a : JobState) (r : Result JobState E) (held held_new : Option (List ℕ))
+    → Stands limit old.bytes a → IsRead old → length old.bytes + length piece ≤ most_bytes → mid ≡ record old { bytes = old.bytes ++ piece }
+    → IfOk r (λ c. Fed limit a c (left mid) (left new) held held_new) → OnOk r (left new ≡ []) → IfOk r (λ c. IsKeptAt c.stage)
+    → IfOk r (λ c. Stands limit (old.bytes ++ piece) c)
+piece_stands limit old mid new piece a (Ok c) held held_new stands read size is fed none kept =
+    stands_next limit old.bytes (old.bytes ++ piece) a c (left mid) (left new) held held_new stands fed none (piece_lines old mid piece read size is) kept
+piece_stands limit old mid new piece a (Err e) held held_new stands read size is fed none kept = tt
+
+pub piece_grew : {E : Type 0} (limit : ℕ) (old mid new : Stream) (piece : List ℕ) (a : JobState) (r : Result JobState E) (held held_new : Option (List ℕ))
+    → Stands limit old.bytes a → IsRead old → length old.bytes + length piece ≤ most_bytes → mid ≡ record old { bytes = old.bytes ++ piece }
+    → IfOk r (λ c. Fed limit a c (left mid) (left new) held held_new) → OnOk r (left new ≡ [])
+    → OnOk r (Grew held held_new (written_at More limit old.bytes) (written_at More limit (old.bytes ++ piece)))
+piece_grew limit old mid new piece a (Ok c) held held_new stands read size is fed none =
+    grew_next limit old.bytes (old.bytes ++ piece) a c (left mid) (left new) held held_new stands fed none (piece_lines old mid piece read size is)
+piece_grew limit old mid new piece a (Err e) held held_new stands read size is fed none = tt
+
+pub piece_read : {X E : Type 0} (old mid new : Stream) (piece : List ℕ) (r : Result X E) → IsRead old → mid ≡ record old { bytes = old.bytes ++ piece }
+    → new.ended ≡ mid.ended → IsWithin new → OnOk r (left new ≡ []) → OnOk r (IsRead new)
+piece_read old mid new piece (Ok x) read is ended within none = all_read new (ended ∙ ap (λ (s : Stream). s.ended) is ∙ read.open_ended) within none
+piece_read old mid new piece (Err e) read is ended within none = tt
+
+-- a front of what the piece settles was written
+pub piece_front : {X E : Type 0} (limit : ℕ) (old mid : Stream) (piece : List ℕ) (a : JobState) (r : Result X E) (held held_new : Option (List ℕ))
+    → Stands limit old.bytes a → IsRead old → length old.bytes + length piece ≤ most_bytes → mid ≡ record old { bytes = old.bytes ++ piece }
+    → OnErr r ((e : Ending) → GrowsByFront held held_new (printed_all (lines_from_stage limit a.stage e (left mid))))
+    → OnErr r ((e : Ending) → GrewByFront held held_new (written_at More limit old.bytes) (written_at e limit (old.bytes ++ piece)))
+piece_front limit old mid piece a (Ok x) held held_new stands read size is grew = tt
+piece_front limit old mid piece a (Err x) held held_new stands read size is grew = λ e.
+    front_next limit old.bytes a (settled (old.bytes ++ piece)) (left mid) held held_new e stands (piece_lines old mid piece read size is) (grew e)
+
+-- nothing was written
+pub piece_lost : (limit : ℕ) (old : Stream) (piece : List ℕ) (a : JobState) (held : Option (List ℕ))
+    → Stands limit old.bytes a → IsRead old → length old.bytes + length piece ≤ most_bytes
+    → (e : Ending) → GrewByFront held held (written_at More limit old.bytes) (written_at e limit (old.bytes ++ piece))
+piece_lost limit old piece a held stands read size e =
+    let mid : Stream = record old { bytes = old.bytes ++ piece } in
+    front_next limit old.bytes a (settled (old.bytes ++ piece)) (left mid) held held e stands (piece_lines old mid piece read size refl)
+    (nothing_written held (printed_all (lines_from_stage limit a.stage e (left mid))))
+
+-- ---- what all lines come to
+
+stays_refused : (output_line : List OutputLine) → come_to (Some status.Refused) output_line ≡ Some status.Refused
+stays_refused [] = refl
+stays_refused (x ∷ output_line) = stays_refused output_line
+
+stays_denied : (output_line : List OutputLine) → come_to (Some status.EditRefused) output_line ≡ Some status.EditRefused
+stays_denied [] = refl
+stays_denied (x ∷ output_line) = stays_denied output_line
+
+taken_next : (x : OutputLine) (output_line : List OutputLine) (c : Bool) → is_refusal x ≡ c → come_to (Some status.Done) output_line ≡ Some (if list_any is_refusal output_line then status.EditRefused else status.Done)
+    → come_to (Some status.Done) (x ∷ output_line) ≡ Some (if list_any is_refusal (x ∷ output_line) then status.EditRefused else status.Done)
+taken_next x output_line true h rest =
+    ap (λ (c : Bool). come_to (Some (if c then status.EditRefused else status.Done)) output_line) h ∙ stays_denied output_line
+    ∙ ap (λ (c : Bool). Some (if c || list_any is_refusal output_line then status.EditRefused else status.Done)) (sym h)
+taken_next x output_line false h rest =
+    ap (λ (c : Bool). come_to (Some (if c then status.EditRefused else status.Done)) output_line) h ∙ rest
+    ∙ ap (λ (c : Bool). Some (if c || list_any is_refusal output_line then status.EditRefused else status.Done)) (sym h)
+
+taken_first : (output_line : List OutputLine) → come_to (Some status.Done) output_line ≡ Some (if list_any is_refusal output_line then status.EditRefused else status.Done)
+taken_first [] = refl
+taken_first (x ∷ output_line) = taken_next x output_line (is_refusal x) refl (taken_first output_line)
+
+begun_status : (x : OutputLine) (output_line : List OutputLine) (c : Bool) → is_refusal x ≡ c
+    → come_to None (x ∷ output_line) ≡ Some (if c then status.Refused else if list_any is_refusal output_line then status.EditRefused else status.Done)
+begun_status x output_line true h = ap (λ (c : Bool). come_to (Some (if c then status.Refused else status.Done)) output_line) h ∙ stays_refused output_line
+begun_status x output_line false h = ap (λ (c : Bool). come_to (Some (if c then status.Refused else status.Done)) output_line) h ∙ taken_first output_line
+
+status_is : (output_line : List OutputLine) → status_at (come_to None output_line) ≡ status_of output_line
+status_is [] = refl
+status_is (x ∷ output_line) = ap status_at (begun_status x output_line (is_refusal x) refl)
+
+refused_if : (a b : Bool) → is_refused (Some (if a then status.Refused else if b then status.EditRefused else status.Done)) ≡ a
+refused_if true b = refl
+refused_if false true = refl
+refused_if false false = refl
+
+pub refused_is : (output_line : List OutputLine) → is_refused (come_to None output_line) ≡ begins_refused output_line
+refused_is [] = refl
+refused_is (x ∷ output_line) = ap is_refused (begun_status x output_line (is_refusal x) refl) ∙ refused_if (is_refusal x) (list_any is_refusal output_line)
+
+-- ---- the end
+
+end_status : (limit : ℕ) (X all : List OutputLine) (b : JobState) (e : Ending) (s : Status) → b.status ≡ come_to None X → all ≡ X ++ lines_from_stage limit b.stage e []
+    → s ≡ status_at (come_to b.status (lines_from_stage limit b.stage e [])) → s ≡ status_of all
+end_status limit X all b e s comes is h =
+    let tail = lines_from_stage limit b.stage e [] in
+    h ∙ ap (λ (o : Option Status). status_at (come_to o tail)) comes ∙ ap status_at (sym (come_on None X tail) ∙ ap (come_to None) (sym is)) ∙ status_is all
+
+end_grew : (held held_now held_new : Option (List ℕ)) (before : List ℕ) (X tail all : List OutputLine) → Grew held held_now before (printed_all X) → all ≡ X ++ tail
+    → Appends held_now held_new (printed_all tail) → Grew held held_new before (printed_all all)
+end_grew held held_now held_new before X tail all grew is end =
+    record {
+      wrote = grew.wrote ++ printed_all tail;
+      grew = Appends-trans held held_now held_new grew.wrote (printed_all tail) grew.grew end;
+      whole = sym (append_assoc before grew.wrote (printed_all tail)) ∙ ap (λ (l : List ℕ). l ++ printed_all tail) grew.whole
+          ∙ sym (flat_map-append printed X tail) ∙ ap printed_all (sym is);
+    }
+
+end_front : (held held_now held_new : Option (List ℕ)) (before : List ℕ) (X tail all : List OutputLine) → Grew held held_now before (printed_all X) → all ≡ X ++ tail
+    → GrowsByFront held_now held_new (printed_all tail) → GrewByFront held held_new before (printed_all all)
+end_front held held_now held_new before X tail all grew is end =
+    record {
+      rest = grew.wrote ++ printed_all tail;
+      grew = front_after held held_now held_new grew.wrote (printed_all tail) grew.grew end;
+      whole = sym (append_assoc before grew.wrote (printed_all tail)) ∙ ap (λ (l : List ℕ). l ++ printed_all tail) grew.whole
+          ∙ sym (flat_map-append printed X tail) ∙ ap printed_all (sym is);
+    }
+
+-- a text with more bytes
+
+last_output_line_is : (limit : ℕ) (text : List ℕ) (b : JobState) → Stands limit text b → written_lines limit Over (settled text) ≡ written_lines limit More (settled text) ++ lines_from_stage limit b.stage Over []
+last_output_line_is limit text b stands = ap (written_lines limit Over) (sym (append-nil (settled text))) ∙ stands.rest Over []
+
+pub last_status : {E : Type 0} (limit : ℕ) (text : List ℕ) (b : JobState) (r : Result Status E) → Stands limit text b
+    → IfOk r (λ s. (limit : ℕ) → s ≡ status_at (come_to b.status (lines_from_stage limit b.stage Over []))) → IfOk r (λ s. s ≡ status_of (written_lines limit Over (settled text)))
+last_status limit text b (Ok s) stands h = end_status limit (written_lines limit More (settled text)) (written_lines limit Over (settled text)) b Over s stands.comes (last_output_line_is limit text b stands) (h limit)
+last_status limit text b (Err e) stands h = tt
+
+pub last_grew : {E : Type 0} (limit : ℕ) (text : List ℕ) (b : JobState) (r : Result Status E) (held held_now held_new : Option (List ℕ)) (before : List ℕ) → Stands limit text b
+    → Grew held held_now before (written_at More limit text) → OnOk r ((limit : ℕ) → Appends held_now held_new (printed_all (lines_from_stage limit b.stage Over [])))
+    → OnOk r (Grew held held_new before (written_at Over limit text))
+last_grew limit text b (Ok s) held held_now held_new before stands grew end =
+    end_grew held held_now held_new before (written_lines limit More (settled text)) (lines_from_stage limit b.stage Over []) (written_lines limit Over (settled text)) grew (last_output_line_is limit text b stands) (end limit)
+last_grew limit text b (Err e) held held_now held_new before stands grew end = tt
+
+pub last_front : {E : Type 0} (limit : ℕ) (text : List ℕ) (b : JobState) (r : Result Status E) (held held_now held_new : Option (List ℕ)) (before : List ℕ) → Stands limit text b
+    → Grew held held_now before (written_at More limit text) → OnErr r ((limit : ℕ) → GrowsByFront held_now held_new (printed_all (lines_from_stage limit b.stage Over [])))
+    → OnErr r (GrewByFront held held_new before (written_at Over limit text))
+last_front limit text b (Ok s) held held_now held_new before stands grew end = tt
+last_front limit text b (Err e) held held_now held_new before stands grew end =
+    end_front held held_now held_new before (written_lines limit More (settled text)) (lines_from_stage limit b.stage Over []) (written_lines limit Over (settled text)) grew (last_output_line_is limit text b stands) (end limit)
+
+-- the end of a text
+
+text_lines : (old mid : Stream) → IsRead old → length old.bytes ≤ most_bytes → mid ≡ record old { ended = true } → lines_of true old.bytes ≡ settled old.bytes ++ left mid
+text_lines old mid read size is =
+    let same : record old { bytes = old.bytes ++ []; ended = true } ≡ mid = ap (λ (l : List ℕ). record old { bytes = l; ended = true }) (append-nil old.bytes) ∙ sym is in
+    ap (lines_of true) (sym (append-nil old.bytes)) ∙ read_more old true [] read ∙ ap (λ (s : Stream). lines_of false old.bytes ++ left s) same
+    ∙ ap (λ (l : List Line). l ++ left mid) (sym (settled_is old.bytes size))
+
+pub text_within : (old mid : Stream) → IsRead old → mid ≡ record old { ended = true } → IsWithin mid
+text_within old mid read is =
+    subst IsWithin (ap (λ (l : List ℕ). record old { bytes = l; ended = true }) (append-nil old.bytes) ∙ sym is) (more_within old true [] read)
+
+text_output_line : (limit : ℕ) (old mid new : Stream) (a b : JobState) (held held_now : Option (List ℕ)) → Stands limit old.bytes a → IsRead old → length old.bytes ≤ most_bytes
+    → mid ≡ record old { ended = true } → (fed : Fed limit a b (left mid) (left new) held held_now) → left new ≡ []
+    → output_lines old.bytes limit ≡ (written_lines limit More (settled old.bytes) ++ fed.output_line) ++ lines_from_stage limit b.stage Ended []
+text_output_line limit old mid new a b held held_now stands read size is fed none =
+    output_at limit old.bytes size
+    ∙ output_line_now limit old.bytes a b (lines_of true old.bytes) (left mid) (left new) held held_now stands fed none (text_lines old mid read size is) Ended
+
+text_grew : (limit : ℕ) (text : List ℕ) (a b : JobState) (new lines_new : List Line) (held held_now : Option (List ℕ)) → (fed : Fed limit a b new lines_new held held_now)
+    → Grew held held_now (written_at More limit text) (printed_all (written_lines limit More (settled text) ++ fed.output_line))
+text_grew limit text a b new lines_new held held_now fed =
+    record { wrote = printed_all fed.output_line; grew = fed.grew; whole = sym (flat_map-append printed (written_lines limit More (settled text)) fed.output_line) }
+
+pub text_status : {E : Type 0} (limit : ℕ) (old mid new : Stream) (a b : JobState) (r : Result Status E) (held held_now : Option (List ℕ)) → Stands limit old.bytes a → IsRead old
+    → length old.bytes ≤ most_bytes → mid ≡ record old { ended = true } → Fed limit a b (left mid) (left new) held held_now → left new ≡ []
+    → IfOk r (λ s. (limit : ℕ) → s ≡ status_at (come_to b.status (lines_from_stage limit b.stage Ended []))) → IfOk r (λ s. s ≡ end_of old.bytes limit)
+text_status limit old mid new a b (Ok s) held held_now stands read size is fed none h =
+    let T = written_lines limit More (settled old.bytes) in
+    end_status limit (T ++ fed.output_line) (output_lines old.bytes limit) b Ended s
+    (fed.comes ∙ ap (λ (o : Option Status). come_to o fed.output_line) stands.comes ∙ sym (come_on None T fed.output_line))
+    (text_output_line limit old mid new a b held held_now stands read size is fed none) (h limit)
+text_status limit old mid new a b (Err e) held held_now stands read size is fed none h = tt
+
+pub text_wrote : {E : Type 0} (limit : ℕ) (old mid new : Stream) (a b : JobState) (r : Result Status E) (held held_now held_new : Option (List ℕ)) → Stands limit old.bytes a → IsRead old
+    → length old.bytes ≤ most_bytes → mid ≡ record old { ended = true } → Fed limit a b (left mid) (left new) held held_now → left new ≡ []
+    → OnOk r ((limit : ℕ) → Appends held_now held_new (printed_all (lines_from_stage limit b.stage Ended []))) → OnOk r (Grew held held_new (written_at More limit old.bytes) (output old.bytes limit))
+text_wrote limit old mid new a b (Ok s) held held_now held_new stands read size is fed none end =
+    end_grew held held_now held_new (written_at More limit old.bytes) (written_lines limit More (settled old.bytes) ++ fed.output_line) (lines_from_stage limit b.stage Ended []) (output_lines old.bytes limit)
+    (text_grew limit old.bytes a b (left mid) (left new) held held_now fed) (text_output_line limit old mid new a b held held_now stands read size is fed none) (end limit)
+text_wrote limit old mid new a b (Err e) held held_now held_new stands read size is fed none end = tt
+
+pub text_front : {E : Type 0} (limit : ℕ) (old mid new : Stream) (a b : JobState) (r : Result Status E) (held held_now held_new : Option (List ℕ)) → Stands limit old.bytes a → IsRead old
+    → length old.bytes ≤ most_bytes → mid ≡ record old { ended = true } → Fed limit a b (left mid) (left new) held held_now → left new ≡ []
+    → OnErr r ((limit : ℕ) → GrowsByFront held_now held_new (printed_all (lines_from_stage limit b.stage Ended []))) → OnErr r (GrewByFront held held_new (written_at More limit old.bytes) (output old.bytes limit))
+text_front limit old mid new a b (Ok s) held held_now held_new stands read size is fed none end = tt
+text_front limit old mid new a b (Err e) held held_now held_new stands read size is fed none end =
+    end_front held held_now held_new (written_at More limit old.bytes) (written_lines limit More (settled old.bytes) ++ fed.output_line) (lines_from_stage limit b.stage Ended []) (output_lines old.bytes limit)
+    (text_grew limit old.bytes a b (left mid) (left new) held held_now fed) (text_output_line limit old mid new a b held held_now stands read size is fed none) (end limit)
+
+-- a front of the lines after the piece before was written
+pub text_cut : (limit : ℕ) (old mid : Stream) (a : JobState) (held held_new : Option (List ℕ)) → Stands limit old.bytes a → IsRead old → length old.bytes ≤ most_bytes
+    → mid ≡ record old { ended = true } → ((e : Ending) → GrowsByFront held held_new (printed_all (lines_from_stage limit a.stage e (left mid))))
+    → GrewByFront held held_new (written_at More limit old.bytes) (output old.bytes limit)
+text_cut limit old mid a held held_new stands read size is grew =
+    subst (λ (l : List OutputLine). GrewByFront held held_new (written_at More limit old.bytes) (printed_all l)) (sym (output_at limit old.bytes size))
+    (front_next limit old.bytes a (lines_of true old.bytes) (left mid) held held_new Ended stands (text_lines old mid read size is) (grew Ended))

@@ -1,0 +1,10 @@
+use Rattle.std.proofs.Common.{sym, ◌∙◌}
+use Rattle.mm_job.specs.JobStates.{end_by}
+use Rattle.mm_job.proofs.EndLemmas.{end_head, end_query}
+use Rattle.mm_job.proofs.state.last_output_line.Goals as goal
+
+pub returns-in-HeaderState : goal.returns-in-HeaderState
+returns-in-HeaderState c = rw c.in-HeaderState.is (λ limit. c.cut_short.ensures ∙ sym (end_head limit c.in-HeaderState.field-0 (end_by c.args.over)))
+
+pub returns-in-Query : goal.returns-in-Query
+returns-in-Query c = rw c.in-Query.is (λ limit. c.cut_short-in-Query.ensures ∙ sym (end_query limit c.in-Query.field-0 c.in-Query.field-1 (end_by c.args.over)))

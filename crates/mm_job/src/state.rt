@@ -1,0 +1,121 @@
+//! How far a job has come, and what the lines that it wrote come to.
+ghost use Rattle.std.specs.Prelude.{◌≡◌, ◌∷◌, ℕ, [], None};
+ghost use Rattle.mm_job.specs.Blocks.{lines_from_block, written};
+ghost use Rattle.mm_job.specs.JobStates.{after_output_line, come_to, end_by, is_refused, status_at};
+ghost use Rattle.mm_job.specs.Header.{Session};
+ghost use Rattle.mm_job.specs.Output.{cut_short, is_refusal};
+ghost use Rattle.mm_job.specs.Stages.{lines_from_stage};
+ghost use Rattle.mm_job.specs.declared.header.HeaderState.TheVariants as heads;
+ghost use Rattle.mm_job.specs.declared.stage.Stage.TheVariants as stages;
+
+use crate::block::Block;
+use crate::header::HeaderState;
+use crate::output_line::OutputLine;
+use crate::stage::Stage;
+use mm_base::Status;
+use mm_job_text::Refusal;
+
+/// What was read of a job, and what the lines that it wrote come to, if it wrote any.
+#[derive(Drop)]
+pub struct JobState {
+    /// What was read.
+    pub stage: Stage,
+    /// What was written comes to this.
+    pub status: Option<Status>,
+}
+
+/// A job that has read nothing.
+pub fn nothing_read() -> JobState
+    ensures { result ≡ record { stage = stages.HeaderState heads.Format; status = None } }
+{
+    JobState {
+        stage: Stage::HeaderState(HeaderState::Format),
+        status: None,
+    }
+}
+
+/// Whether a line is a refusal.
+fn is_refusal(output_line: &OutputLine) -> bool
+    ensures { result ≡ is_refusal output_line.now }
+{
+    match output_line {
+        OutputLine::Says(_) => false,
+        OutputLine::Refuses(_) => true,
+    }
+}
+
+/// What a job has come to after a line more.
+fn after_output_line(status: Option<Status>, output_line: &OutputLine) -> Option<Status>
+    ensures { result ≡ after_output_line status output_line.now }
+{
+    match status {
+        None if is_refusal(output_line) => Some(Status::Refused),
+        None => Some(Status::Done),
+        Some(Status::Done) if is_refusal(output_line) => Some(Status::EditRefused),
+        Some(status) => Some(status),
+    }
+}
+
+/// What a job has come to after what a step writes.
+pub fn after_step(status: Option<Status>, output_line: &Option<OutputLine>) -> Option<Status>
+    ensures { result ≡ come_to status (written output_line.now) }
+{
+    match output_line {
+        None => status,
+        Some(output_line) => after_output_line(status, output_line),
+    }
+}
+
+/// The status where nothing more is written.
+pub fn status_at(status: Option<Status>) -> Status
+    ensures { result ≡ status_at status }
+{
+    match status {
+        None => Status::Done,
+        Some(status) => status,
+    }
+}
+
+/// Whether the job was refused.
+pub fn is_refused(status: Option<Status>) -> bool
+    ensures { result ≡ is_refused status }
+{
+    match status {
+        Some(Status::Refused) => true,
+        _ => false,
+    }
+}
+
+/// The refusal of a text that ends in a header or a block.
+fn cut_short(over: bool) -> OutputLine
+    ensures { result ∷ [] ≡ cut_short (end_by over) }
+{
+    if over {
+        OutputLine::Refuses(Refusal::TooLong)
+    } else {
+        OutputLine::Refuses(Refusal::Unfinished)
+    }
+}
+
+/// What is written at the end of a text after its header, where a block has begun or not.
+fn last_of_items(block: &Option<Block>, over: bool) -> Option<OutputLine>
+    ensures { (s : Session) → written result ≡ lines_from_block (end_by over) s block.now [] }
+{
+    match block {
+        Some(_) => Some(cut_short(over)),
+        None if over => Some(OutputLine::Refuses(Refusal::TooLong)),
+        None => None,
+    }
+}
+
+/// What is written at the end of a text, or where it has more bytes than are used.
+pub fn last_output_line(stage: &Stage, over: bool) -> Option<OutputLine>
+    ensures { (limit : ℕ) → written result ≡ lines_from_stage limit stage.now (end_by over) [] }
+{
+    match stage {
+        Stage::HeaderState(_) => Some(cut_short(over)),
+        Stage::Query(_, _) => Some(cut_short(over)),
+        Stage::Items(_, block) => last_of_items(block, over),
+        Stage::Refused => None,
+    }
+}

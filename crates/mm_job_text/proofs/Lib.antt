@@ -1,0 +1,9 @@
+pub mod ReaderLemmas
+pub mod DigitLemmas
+mod SpacedLemmas
+mod NumeralLemmas
+mod TextLineLemmas
+mod WrittenLineLemmas
+mod WrittenTreeLemmas
+pub mod ReadingLemmas
+mod ReadTreeLemmas

@@ -1,0 +1,11 @@
+pub mod Words
+pub mod Checks
+pub mod Arguments
+pub mod Readers
+pub mod DigitTexts
+pub mod HeaderLines
+pub mod OperatorLines
+pub mod OperatorTokens
+pub mod TreeLines
+pub mod Becoming
+pub mod WrittenTrees

@@ -1,0 +1,188 @@
+//! The lines of operators, each by itself.
+ghost use Rattle.std.specs.Prelude.{◌≡◌, MatchOption, Some, None, option_copied, IfOk};
+ghost use Rattle.mm_job_text.specs.OperatorLines.{HasDigits, HasThirdDigits, eight_of, operator_tokens, operator_line, seven_of, shown, third_matrix};
+ghost use Rattle.mm_job_text.specs.OperatorTokens.{tokens_of};
+
+use crate::arguments::args;
+use crate::digits::read_vectors;
+use crate::format::Format;
+use crate::refusal::Refusal;
+use mm_base::Name;
+use mm_field::Field;
+use mm_lines::{Line, Tokens, read_u32};
+use mm_space::Gen;
+
+/// The third matrix of an operator.
+#[derive(Clone, Copy, Debug)]
+pub enum ThirdMatrix {
+    /// It is not written: it is the first unit vectors.
+    Units,
+    /// It is written.
+    Written(Gen),
+}
+
+/// What the line of an operator says.
+#[derive(Clone, Copy, Debug)]
+pub struct OperatorLine {
+    /// The operator's name.
+    pub name: Name,
+    /// How many digits the left boundary has.
+    pub t1: u32,
+    /// How many digits the right boundary has.
+    pub t2: u32,
+    /// How many digits the boundary of the join has.
+    pub t3: u32,
+    /// How many dimensions more the space of the join has.
+    pub c: u32,
+    /// The left boundary in the space of the join.
+    pub g1: Gen,
+    /// The right boundary in the space of the join.
+    pub g2: Gen,
+    /// The boundary of the join in its space.
+    pub g3: ThirdMatrix,
+}
+
+/// The tokens after the word `op`.
+#[derive(Clone, Copy)]
+struct Written<'a> {
+    name: &'a [u8],
+    t1: &'a [u8],
+    t2: &'a [u8],
+    t3: &'a [u8],
+    c: &'a [u8],
+    g1: &'a [u8],
+    g2: &'a [u8],
+    g3: Option<&'a [u8]>,
+}
+
+/// The seven tokens that are left.
+fn seven<'a>(tokens: Tokens<'a>) -> Option<Written<'a>>
+    ensures { MatchOption result (seven_of tokens.entry ≡ None) (λ w. seven_of tokens.entry ≡ Some (tokens_of w)) }
+{
+    let mut tokens = tokens;
+    let name = tokens.next()?;
+    let t1 = tokens.next()?;
+    let t2 = tokens.next()?;
+    let t3 = tokens.next()?;
+    let c = tokens.next()?;
+    let g1 = tokens.next()?;
+    let g2 = tokens.next()?;
+    match tokens.next() {
+        None => Some(Written {
+            name,
+            t1,
+            t2,
+            t3,
+            c,
+            g1,
+            g2,
+            g3: None,
+        }),
+        Some(_) => None,
+    }
+}
+
+/// The eight tokens that are left.
+fn eight<'a>(tokens: Tokens<'a>) -> Option<Written<'a>>
+    ensures { MatchOption result (eight_of tokens.entry ≡ None) (λ w. eight_of tokens.entry ≡ Some (tokens_of w)) }
+{
+    let mut tokens = tokens;
+    let name = tokens.next()?;
+    let t1 = tokens.next()?;
+    let t2 = tokens.next()?;
+    let t3 = tokens.next()?;
+    let c = tokens.next()?;
+    let g1 = tokens.next()?;
+    let g2 = tokens.next()?;
+    let g3 = tokens.next()?;
+    match tokens.next() {
+        None => Some(Written {
+            name,
+            t1,
+            t2,
+            t3,
+            c,
+            g1,
+            g2,
+            g3: Some(g3),
+        }),
+        Some(_) => None,
+    }
+}
+
+/// The tokens after the word `op`, as many as the format has.
+fn operator_tokens<'a>(format: Format, tokens: Tokens<'a>) -> Option<Written<'a>>
+    ensures { MatchOption result (operator_tokens format tokens.entry ≡ None) (λ w. operator_tokens format tokens.entry ≡ Some (tokens_of w)) }
+{
+    match format {
+        Format::One => seven(tokens),
+        Format::Two => eight(tokens),
+    }
+}
+
+/// What the tokens show, if they do.
+#[tactic(auto, unfolding(crate::specs::OperatorLines::shown))]
+fn shown(f: Field, written: &Written<'_>, refused: Refusal) -> Result<OperatorLine, Refusal>
+    ensures shown { result ≡ shown f (tokens_of written.now) refused }
+    ensures digits { IfOk result (λ w. HasDigits f w) }
+{
+    let Some(name) = Name::read(written.name) else {
+        return Err(refused);
+    };
+    let Some(t1) = read_u32(written.t1) else {
+        return Err(refused);
+    };
+    let Some(t2) = read_u32(written.t2) else {
+        return Err(refused);
+    };
+    let Some(t3) = read_u32(written.t3) else {
+        return Err(refused);
+    };
+    let Some(c) = read_u32(written.c) else {
+        return Err(refused);
+    };
+    let Some(g1) = read_vectors(f, written.g1) else {
+        return Err(refused);
+    };
+    let Some(g2) = read_vectors(f, written.g2) else {
+        return Err(refused);
+    };
+    let g3 = third_matrix(f, written.g3, refused)?;
+    Ok(OperatorLine {
+        name,
+        t1,
+        t2,
+        t3,
+        c,
+        g1,
+        g2,
+        g3,
+    })
+}
+
+/// The third matrix, where it is written.
+fn third_matrix(f: Field, written: Option<&[u8]>, refused: Refusal) -> Result<ThirdMatrix, Refusal>
+    ensures shown { result ≡ third_matrix f (option_copied written.entry) refused }
+    ensures digits { IfOk result (λ g3. HasThirdDigits f g3) }
+{
+    match written {
+        None => Ok(ThirdMatrix::Units),
+        Some(bytes) => match read_vectors(f, bytes) {
+            Some(g3) => Ok(ThirdMatrix::Written(g3)),
+            None => Err(refused),
+        },
+    }
+}
+
+/// `op NAME T1 T2 T3 C G1 G2`, in format 2 with G3
+#[tactic(auto, unfolding(crate::specs::OperatorLines::operator_line))]
+pub fn read_operator(format: Format, f: Field, line: &Line) -> Result<OperatorLine, Refusal>
+    ensures shown { result ≡ operator_line format f line.now }
+    ensures digits { IfOk result (λ w. HasDigits f w) }
+{
+    let refused = Refusal::Syntax(line.number);
+    match operator_tokens(format, args(line)) {
+        Some(written) => shown(f, &written, refused),
+        None => Err(refused),
+    }
+}

@@ -1,5 +1,0 @@
-use Rattle.mm_laws.proofs.LeastLemmas.{answer-of-firsts}
-use Rattle.mm_laws.proofs.answer_of_firsts.Goals as goal
-
-pub returns : goal.returns
-returns c = answer-of-firsts

@@ -1,5 +1,0 @@
-use Rattle.mm_laws.proofs.MatrixLemmas.{basis_meant}
-use Rattle.mm_laws.proofs.basis_is_meant.Goals as goal
-
-pub returns : goal.returns
-returns c = basis_meant

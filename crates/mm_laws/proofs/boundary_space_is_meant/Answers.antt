@@ -1,5 +1,0 @@
-use Rattle.mm_laws.proofs.MatrixLemmas.{boundary_meant}
-use Rattle.mm_laws.proofs.boundary_space_is_meant.Goals as goal
-
-pub returns : goal.returns
-returns c = boundary_meant

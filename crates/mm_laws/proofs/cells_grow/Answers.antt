@@ -1,5 +1,0 @@
-use Rattle.mm_logic.proofs.OccurrenceLemmas.{cells-grow}
-use Rattle.mm_laws.proofs.cells_grow.Goals as goal
-
-pub returns : goal.returns
-returns c = cells-grow

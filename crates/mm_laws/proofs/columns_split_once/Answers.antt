@@ -1,5 +1,0 @@
-use Rattle.mm_laws.proofs.MatrixLemmas.{one_column}
-use Rattle.mm_laws.proofs.columns_split_once.Goals as goal
-
-pub returns : goal.returns
-returns c = one_column

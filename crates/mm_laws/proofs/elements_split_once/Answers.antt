@@ -1,5 +1,0 @@
-use Rattle.mm_laws.proofs.SplitLawLemmas.{elements-split_once}
-use Rattle.mm_laws.proofs.elements_split_once.Goals as goal
-
-pub returns : goal.returns
-returns c = elements-split_once

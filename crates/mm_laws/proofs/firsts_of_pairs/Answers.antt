@@ -1,5 +1,0 @@
-use Rattle.mm_laws.proofs.LeastLemmas.{firsts-of-pairs}
-use Rattle.mm_laws.proofs.firsts_of_pairs.Goals as goal
-
-pub returns : goal.returns
-returns c = firsts-of-pairs

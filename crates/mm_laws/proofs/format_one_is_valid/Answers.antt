@@ -1,5 +1,0 @@
-use Rattle.mm_laws.proofs.RowLemmas.{format-one_valid}
-use Rattle.mm_laws.proofs.format_one_is_valid.Goals as goal
-
-pub returns : goal.returns
-returns c = format-one_valid

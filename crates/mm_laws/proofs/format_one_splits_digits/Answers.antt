@@ -1,5 +1,0 @@
-use Rattle.mm_laws.proofs.RowLemmas.{format-one}
-use Rattle.mm_laws.proofs.format_one_splits_digits.Goals as goal
-
-pub returns : goal.returns
-returns c = format-one

@@ -1,5 +1,0 @@
-use Rattle.mm_laws.proofs.SpaceLemmas.{independence_at_join}
-use Rattle.mm_laws.proofs.independence_at_join.Goals as goal
-
-pub returns : goal.returns
-returns c = independence_at_join

@@ -1,5 +1,0 @@
-use Rattle.mm_laws.proofs.MatrixLemmas.{independence_decided}
-use Rattle.mm_laws.proofs.independence_is_decided.Goals as goal
-
-pub returns : goal.returns
-returns c = independence_decided

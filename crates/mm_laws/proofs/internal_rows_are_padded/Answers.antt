@@ -1,5 +1,0 @@
-use Rattle.mm_laws.proofs.RowLemmas.{internal-rows}
-use Rattle.mm_laws.proofs.internal_rows_are_padded.Goals as goal
-
-pub returns : goal.returns
-returns c = internal-rows

@@ -1,5 +1,0 @@
-use Rattle.mm_laws.proofs.MeaningLemmas.{meaning_decided}
-use Rattle.mm_laws.proofs.meaning_is_decided.Goals as goal
-
-pub returns : goal.returns
-returns c = meaning_decided

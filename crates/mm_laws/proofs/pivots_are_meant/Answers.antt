@@ -1,5 +1,0 @@
-use Rattle.mm_laws.proofs.RowLemmas.{pivots-meant}
-use Rattle.mm_laws.proofs.pivots_are_meant.Goals as goal
-
-pub returns : goal.returns
-returns c = pivots-meant

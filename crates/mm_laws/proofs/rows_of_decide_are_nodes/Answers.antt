@@ -1,5 +1,0 @@
-use Rattle.mm_laws.proofs.SizeLawLemmas.{rows_of_decide}
-use Rattle.mm_laws.proofs.rows_of_decide_are_nodes.Goals as goal
-
-pub returns : goal.returns
-returns c = rows_of_decide

@@ -1,5 +1,0 @@
-use Rattle.mm_laws.proofs.SplitLawLemmas.{sets-split_once}
-use Rattle.mm_laws.proofs.sets_split_once.Goals as goal
-
-pub returns : goal.returns
-returns c = sets-split_once

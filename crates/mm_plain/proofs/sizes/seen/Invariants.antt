@@ -1,6 +1,0 @@
-use Rattle.std.proofs.Common.{◌≡◌, take}
-use Rattle.mm_plain.specs.Values.{seen_of, values_of}
-use Rattle.mm_plain.proofs.sizes.seen.Given as goal
-
-abbrev pub invariant-loop-value : goal.invariant-loop-value
-invariant-loop-value l = seen_of l.all.items ≡ values_of (take l.value-index l.values)

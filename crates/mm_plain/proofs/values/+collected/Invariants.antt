@@ -1,5 +1,0 @@
-use Rattle.std.proofs.Common.{length}
-use Rattle.mm_plain.proofs.values.+collected.Given as goal
-
-abbrev pub decreases-collected : goal.decreases-collected
-decreases-collected l = length l.values.items

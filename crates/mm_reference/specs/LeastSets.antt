@@ -1,0 +1,18 @@
+-- What the program says of least sets.
+use Rattle.std.specs.Prelude.{◌≡◌, ℕ, Bool, ℤ, Option, Some, None, List, [], length, slice_index_or}
+use Rattle.mm_field.specs.declared.Field.{Field}
+use Rattle.mm_logic.specs.Formula.{Formula}
+use Rattle.mm_logic.specs.Least.{Satisfies, IsLeastSet}
+use Rattle.mm_logic.specs.Tree.{Tree, size}
+use Rattle.mm_reference.specs.declared.first_sets.LeastSet.{LeastSet}
+use Rattle.mm_reference.specs.declared.first_sets.LeastSet.TheVariants.{Missing, Found}
+
+-- What is found is the least set; it is missing where no set satisfies the formula.
+abbrev pub IsAnswer : Field → Formula → Tree → List ℤ → LeastSet → Type 0
+IsAnswer f F T ws Missing = (A : List Bool) → length A ≡ size T → Satisfies f F T A → ⊥
+IsAnswer f F T ws (Found A) = IsLeastSet f F T ws A.items
+
+-- the set at a place, where there is one
+abbrev pub set_at : List (List Bool) → Option ℕ → Option (List Bool)
+set_at sets None = None
+set_at sets (Some i) = Some (slice_index_or sets i [])

@@ -1,7 +1,0 @@
-use Rattle.std.proofs.Common.{sym, ap, ◌∙◌}
-use Rattle.mm_tree.proofs.BuilderLaws.{any_name}
-use Rattle.mm_tree.specs.NamedTree.{is_one_of}
-use Rattle.mm_words.proofs.name_set.NameSet.contains.Goals as goal
-
-pub returns : goal.returns
-returns c = c.contains.ensures ∙ any_name c.args.name.now c.self.inside.names.keys ∙ ap (is_one_of c.args.name.now) c.self.view_is
