@@ -7,7 +7,7 @@ use Rattle.mm_linear.specs.ReducedEchelon.{reduced_basis}
 use Rattle.mm_linear.specs.Coordinates.{is_pivot, free_columns, completed, digit_below, coordinates}
 use Rattle.mm_linear.specs.Subspaces.{all_vectors, subspace, preimage}
 
--- the third boundary 0 1 1 over GF(3): column 1 is its pivot column
+-- the row 0 1 1 over GF(3): column 1 is its pivot column
 free : free_columns Three 3 ((0 ∷ 1 ∷ 1 ∷ []) ∷ []) ≡ 0 ∷ 2 ∷ []
 unfolding is_pivot is_in_span new_place echelon_of plus times negative inverse
 free = refl

@@ -7,9 +7,9 @@ use Rattle.mm_field.specs.declared.Field.{Field}
 use Rattle.mm_field.specs.Vectors.{IsVector, AreVectors, InSpan, IsWithin}
 use Rattle.mm_field.proofs.VectorLemmas.{vector_sum_comm}
 use Rattle.mm_field.proofs.CombinationLemmas.{first_row, other_rows, InSpan-within, InSpan-one_more, IsWithin-itself}
-use Rattle.mm_linear.proofs.TypeLemmas.{InSum-from_append, append_left_in, append_right_in}
+use Rattle.mm_linear.proofs.SpanLemmas.{InSum-from_append, append_left_in, append_right_in}
 use Rattle.mm_linear.specs.Decide.{new_place, echelon_of, is_in_span, meets_in_zero}
-use Rattle.mm_linear.specs.Meets.{MeetTrivially}
+use Rattle.mm_linear.specs.Sums.{MeetTrivially}
 use Rattle.mm_linear.proofs.InsertLemmas.{in_span_with_no_residue}
 use Rattle.mm_linear.proofs.SpaceLemmas.{false_true}
 use Rattle.mm_linear.proofs.SubspaceLemmas.{meet_more, meet_fails}

@@ -9,11 +9,11 @@ use Rattle.mm_field.specs.Vectors.{zeros, vector_sum, multiple, combination, IsV
 use Rattle.mm_field.proofs.Tables.{times-zero, times_comm, times-inverse}
 use Rattle.mm_field.proofs.VectorLemmas.{vector_sum_assoc, vector_sum-zeros, zeros-vector_sum, opposite-vector_sum, multiple-zeros, zero-multiple, one-multiple, multiple-times, zeros_from_entries, IsVector-multiple}
 use Rattle.mm_field.proofs.CombinationLemmas.{zeros_twice, InSpan-first, combination-append, combination-zeros, IsVector-combination, IsWithin-itself, InSpan-within, InSpan-vector_sum, InSpan-multiple, InSpan-one_more, vector_sum-append, multiple-append}
-use Rattle.mm_linear.specs.Joins.{InSum}
+use Rattle.mm_linear.specs.Sums.{InSum}
 use Rattle.mm_field.proofs.PartLemmas.{combination-map, zeros-append, append_parts}
 use Rattle.mm_linear.specs.Echelons.{entry, IsEchelon, ZeroFrom, EndsAt}
 use Rattle.mm_linear.specs.Padded.{padded}
-use Rattle.mm_linear.specs.Meets.{MeetTrivially}
+use Rattle.mm_linear.specs.Sums.{MeetTrivially}
 use Rattle.mm_linear.proofs.EchelonLemmas.{combination_entry_zero, span_is_fixed, echelon_unique, zero_not_one}
 
 pub drop_of_end : (n c : ℕ) (v : List ℕ) → length v ≡ n → EndsAt n c v → drop c v ≡ zeros (n - c)

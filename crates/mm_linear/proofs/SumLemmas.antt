@@ -6,9 +6,9 @@ use Rattle.mm_field.specs.declared.Field.{Field}
 use Rattle.mm_field.specs.Vectors.{zeros, multiple, combination, IsVector, AreVectors, InSpan, IsWithin, SameRowSpace}
 use Rattle.mm_field.proofs.VectorLemmas.{vector_sum_comm, multiple-zeros, IsVector-zeros}
 use Rattle.mm_field.proofs.CombinationLemmas.{IsWithin-itself, IsWithin-within, InSpan-within, InSpan-zeros, InSpan-first, InSpan-one_more}
-use Rattle.mm_linear.proofs.TypeLemmas.{InSum-from_append, append_left_in, append_right_in}
+use Rattle.mm_linear.proofs.SpanLemmas.{InSum-from_append, append_left_in, append_right_in}
 use Rattle.mm_linear.specs.Echelons.{entry, IsEchelon}
-use Rattle.mm_linear.specs.Meets.{MeetTrivially}
+use Rattle.mm_linear.specs.Sums.{MeetTrivially}
 use Rattle.mm_linear.proofs.EchelonLemmas.{zero_not_one}
 use Rattle.mm_linear.proofs.SubspaceLemmas.{split_first, meet_more, meet_fails, outside_later, rest_is_all}
 

@@ -3,3 +3,4 @@ pub mod ValueLemmas
 pub mod OccurrenceLemmas
 pub mod BagLemmas
 pub mod GrowthLemmas
+pub mod ChosenLemmas

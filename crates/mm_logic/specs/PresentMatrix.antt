@@ -1,9 +1,8 @@
 -- The matrix of a tree, by its columns, and independence in it.
-use Rattle.std.specs.Prelude.{◌≡◌, ℕ, ◌+◌, Bool, List, [], ◌∷◌, ◌++◌, map, slice_index}
+use Rattle.std.specs.Prelude.{◌≡◌, ℕ, ◌+◌, Bool, List, [], ◌∷◌, ◌++◌, map, take, drop, slice_index}
 use Rattle.std.specs.List.{items_where_true}
 use Rattle.mm_field.specs.declared.Field.{Field}
-use Rattle.mm_field.specs.Vectors.{vector_sum, combination, times_matrix, IsVector, AreIndependent}
-use Rattle.mm_linear.specs.Joins.{left_column, right_column}
+use Rattle.mm_field.specs.Vectors.{zeros, vector_sum, combination, times_matrix, IsVector, AreIndependent}
 use Rattle.mm_linear.specs.Decide.{is_independent}
 use Rattle.mm_linear.specs.Coordinates.{unit, free_columns, completed, coordinates, in_coordinates}
 use Rattle.mm_logic.specs.Operator.{Op, row_length}
@@ -28,6 +27,14 @@ pub record IsColumn (f : Field) (op : Op) (x b y : List ℕ) : Type 0 where
 -- b and then y, by elimination: the coordinates of x in the basis of the rows of G3 and the unit vectors at its free columns
 abbrev pub column_digits : Field → Op → List ℕ → List ℕ
 column_digits f op x = coordinates f (row_length op) (completed f (row_length op) op.g3) x
+
+-- A column of a child has its t boundary digits and then its internal ones. Here it is as a column of the join before its boundary
+-- digits are those of the join: they are a vector of the space of the join, and the other child has m internal rows.
+abbrev pub left_column : Field → ℕ → ℕ → List (List ℕ) → ℕ → List ℕ → List ℕ
+left_column f t r g m v = times_matrix f r g (take t v) ++ (drop t v ++ zeros m)
+
+abbrev pub right_column : Field → ℕ → ℕ → List (List ℕ) → ℕ → List ℕ → List ℕ
+right_column f t r g m v = times_matrix f r g (take t v) ++ (zeros m ++ drop t v)
 
 -- The columns of the matrix of a tree, one for each element in leaf order, each with its boundary digits and then its internal
 -- digits. The one column of an element's leaf is its vector. At a join the boundary digits of a column of the left child times G1,

@@ -9,7 +9,7 @@ use Rattle.mm_field.specs.Digits.{plus, times, negative, inverse}
 use Rattle.mm_linear.specs.Decide.{new_place, echelon_of, is_independent, is_in_span, meets_in_zero}
 use Rattle.mm_linear.specs.ReducedEchelon.{reduced_basis}
 use Rattle.mm_linear.specs.Coordinates.{is_pivot, digit_below, coordinates}
-use Rattle.mm_linear.specs.Subspaces.{all_vectors, subspace, boundary_space, preimage}
+use Rattle.mm_linear.specs.Subspaces.{all_vectors, subspace, head_of_span, preimage}
 use Rattle.mm_logic.specs.Value.Value.{Dead, Span}
 use Rattle.mm_logic.specs.Tree.Tree.{Elem, Void, Join}
 use Rattle.mm_logic.specs.JoinRule.{joined, lettered}
@@ -29,11 +29,11 @@ unfolding coordinates digit_below is_pivot is_in_span new_place echelon_of plus 
 two_columns = refl
 
 both : ind_type Two tree (true ∷ true ∷ []) ≡ Span 1 ((1 ∷ []) ∷ [])
-unfolding coordinates digit_below is_pivot is_in_span new_place echelon_of is_independent boundary_space subspace all_vectors reduced_basis plus times negative inverse
+unfolding coordinates digit_below is_pivot is_in_span new_place echelon_of is_independent head_of_span subspace all_vectors reduced_basis plus times negative inverse
 both = refl
 
 one : ind_type Two tree (true ∷ false ∷ []) ≡ Span 1 []
-unfolding coordinates digit_below is_pivot is_in_span new_place echelon_of is_independent boundary_space subspace all_vectors reduced_basis plus times negative inverse
+unfolding coordinates digit_below is_pivot is_in_span new_place echelon_of is_independent head_of_span subspace all_vectors reduced_basis plus times negative inverse
 one = refl
 
 -- the first boundary of the inner join is the sum of two elements, and a third element closes a circuit with both
@@ -81,5 +81,5 @@ circuit =
     (Elem (1 ∷ []))
 
 size_of_circuit : state_size Two (Decide (Ind (record { whole = true; slots = [] }))) circuit ≡ 8
-unfolding coordinates digit_below is_pivot is_in_span new_place echelon_of is_independent boundary_space subspace all_vectors reduced_basis plus times negative inverse
+unfolding coordinates digit_below is_pivot is_in_span new_place echelon_of is_independent head_of_span subspace all_vectors reduced_basis plus times negative inverse
 size_of_circuit = refl

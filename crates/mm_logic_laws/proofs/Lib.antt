@@ -1,3 +1,6 @@
+pub mod JoinLemmas
+pub mod RepresentedLemmas
+pub mod ThirdBoundary
 pub mod MatrixLemmas
 pub mod RowLemmas
 pub mod SpaceLemmas

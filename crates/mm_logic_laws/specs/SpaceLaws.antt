@@ -2,8 +2,8 @@
 use Rattle.std.specs.Prelude.{◌≡◌, ◌↔◌, ℕ, Bool, true, List, ◌++◌, length}
 use Rattle.mm_field.specs.declared.Field.{Field}
 use Rattle.mm_field.specs.Vectors.{times_matrix, IsVector, AreVectors, InSpan, SameRowSpace}
-use Rattle.mm_linear.specs.Joins.{InSum}
-use Rattle.mm_linear.specs.Meets.{MeetTrivially}
+use Rattle.mm_linear.specs.Sums.{InSum}
+use Rattle.mm_linear.specs.Sums.{MeetTrivially}
 use Rattle.mm_linear.specs.ReducedEchelon.{Leads, Clear, reduced_basis, IsLeftBasis}
 use Rattle.mm_linear.specs.Subspaces.{preimage}
 use Rattle.mm_logic.specs.Operator.{Op, row_length}

@@ -6,26 +6,27 @@ use Rattle.std.proofs.lemmas.List.Elements.{All-append}
 use Rattle.std.proofs.lemmas.Bool.{false_from_ne_true, false≢true}
 use Rattle.mm_field.specs.declared.Field.{Field}
 use Rattle.mm_field.specs.Vectors.{zeros, vector_sum, combination, IsVector, AreVectors, InSpan, AreIndependent, times_matrix}
-use Rattle.mm_linear.specs.Joins.{InSum, InImage1, InImage2, Sides, AreSides, joined, width, Represents}
-use Rattle.mm_linear.specs.Meets.{MeetTrivially}
+use Rattle.mm_linear.specs.Sums.{InSum, MeetTrivially}
 use Rattle.mm_field.proofs.VectorLemmas.{vector_sum-zeros, IsVector-zeros}
 use Rattle.mm_field.proofs.CombinationLemmas.{IsVector-combination, combination-append, combination-zeros}
 use Rattle.mm_field.proofs.PartLemmas.{AreVectors-map, IsVector-append}
-use Rattle.mm_linear.proofs.JoinLemmas.{AreVectors-joined, joined_independent, left_independent, right_independent, images_meet_in_zero, boundary_in_sum, sum_in_boundary}
-use Rattle.mm_linear.proofs.TypeLemmas.{images1, images2, AreVectors-images, join_is_independent, boundary_target, InSum-from_append, append_from_InSum, InImage-represented, represented-InImage}
+use Rattle.mm_logic_laws.proofs.JoinLemmas.{Sides, AreSides, placed_columns, width, InImage1, InImage2, AreVectors-joined, joined_independent, left_independent, right_independent, images_meet_in_zero, boundary_in_sum, sum_in_boundary}
+use Rattle.mm_linear.proofs.SpanLemmas.{AreVectors-images, InSum-from_append, append_from_InSum}
+use Rattle.mm_logic_laws.proofs.RepresentedLemmas.{Represents, boundary_space_represents, images1, images2, join_is_independent, boundary_target, InImage-represented, represented-InImage}
 use Rattle.mm_linear.specs.Decide.{is_independent, is_in_span, meets_in_zero}
 use Rattle.mm_linear.specs.Coordinates.{unit, free_columns, completed, in_coordinates}
-use Rattle.mm_linear.specs.Subspaces.{boundary_space, preimage}
+use Rattle.mm_linear.specs.Subspaces.{head_of_span, preimage}
+use Rattle.mm_logic.specs.BoundarySpaces.{boundary_space}
 use Rattle.mm_linear.proofs.DecideLemmas.{is_independent_decides}
 use Rattle.mm_linear.proofs.MeetTest.{is_in_span_decides, meets_in_zero_decides}
 use Rattle.mm_linear.proofs.BasisLemmas.{completed_is_basis, AreVectors-free}
-use Rattle.mm_linear.proofs.SubspaceTests.{boundary_space_represents, subspace_same, same_test}
+use Rattle.mm_linear.proofs.SubspaceTests.{subspace_same, same_test}
 use Rattle.mm_linear.proofs.ChangeLemmas.{out_of, IsVector-in_coordinates, independent_in_coordinates, span_in_coordinates}
 
 -- z followed by zeros is in the span of the join's columns exactly where z is in the sum of the images
 pub sum_by_images : (j : Sides) → AreSides j → (k1 k2 : List (List ℕ)) →
     Represents j.f j.t1 j.m1 j.columns1 k1 → Represents j.f j.t2 j.m2 j.columns2 k2 → (z : List ℕ) → length z ≡ j.r →
-    InSpan j.f (width j) (joined j) (z ++ (zeros j.m1 ++ zeros j.m2)) ↔ InSpan j.f j.r (images1 j k1 ++ images2 j k2) z
+    InSpan j.f (width j) (placed_columns j) (z ++ (zeros j.m1 ++ zeros j.m2)) ↔ InSpan j.f j.r (images1 j k1 ++ images2 j k2) z
 sum_by_images j h k1 k2 rep1 rep2 z lz =
     let hs = AreVectors-images j.f j.r k2 j.g2 j.t2 rep2.each h.rows2 in (
       (λ p.
@@ -59,14 +60,14 @@ pub record IsThird (j : Sides) (t3 c : ℕ) (g3 : List (List ℕ)) : Type 0 wher
 
 -- the columns of the join, in the coordinates of the third boundary
 abbrev pub join_columns : Sides → List (List ℕ) → List (List ℕ)
-join_columns j g3 = map (in_coordinates j.f j.r (completed j.f j.r g3)) (joined j)
+join_columns j g3 = map (in_coordinates j.f j.r (completed j.f j.r g3)) (placed_columns j)
 
 pub AreVectors-join : (j : Sides) → AreSides j → (t3 c : ℕ) (g3 : List (List ℕ)) → IsThird j t3 c g3 →
     AreVectors j.f (width j) (join_columns j g3)
 AreVectors-join j h t3 c g3 third =
     let b = completed_is_basis j.f j.r g3 third.rows third.independent in
     AreVectors-map j.f (width j) (width j) (in_coordinates j.f j.r (completed j.f j.r g3))
-    (IsVector-in_coordinates j.f j.r (j.m1 + j.m2) (completed j.f j.r g3) b) (joined j) (AreVectors-joined j h)
+    (IsVector-in_coordinates j.f j.r (j.m1 + j.m2) (completed j.f j.r g3) b) (placed_columns j) (AreVectors-joined j h)
 
 -- the union is independent exactly where both sides are and the images meet in zero alone
 pub third_independent : (j : Sides) → AreSides j → (t3 c : ℕ) (g3 : List (List ℕ)) → IsThird j t3 c g3 → (k1 k2 : List (List ℕ)) →
@@ -77,7 +78,7 @@ pub third_independent : (j : Sides) → AreSides j → (t3 c : ℕ) (g3 : List (
     × MeetTrivially j.r (InSpan j.f j.r (images1 j k1)) (InSpan j.f j.r (images2 j k2)))
 third_independent j h t3 c g3 third k1 k2 rep1 rep2 i1 i2 =
     let b = completed_is_basis j.f j.r g3 third.rows third.independent in
-    let moved = independent_in_coordinates j.f j.r (j.m1 + j.m2) (completed j.f j.r g3) (joined j) b (AreVectors-joined j h) in
+    let moved = independent_in_coordinates j.f j.r (j.m1 + j.m2) (completed j.f j.r g3) (placed_columns j) b (AreVectors-joined j h) in
     let both = join_is_independent j h k1 k2 rep1 rep2 i1 i2 in (
       (λ p. both.0 (moved.0 p)),
       (λ p. moved.1 (both.1 p)),
@@ -100,7 +101,7 @@ stands_for f t3 c m1 m2 r g us b er lg hg hu lb =
 -- b followed by zeros is in the span of the columns in those coordinates where b times the third boundary is in that of the columns
 third_span : (j : Sides) → AreSides j → (t3 c : ℕ) (g3 : List (List ℕ)) → IsThird j t3 c g3 → (b : List ℕ) → IsVector j.f t3 b →
     InSpan j.f (width j) (join_columns j g3) (b ++ zeros (c + (j.m1 + j.m2)))
-    ↔ InSpan j.f (width j) (joined j) (times_matrix j.f j.r g3 b ++ (zeros j.m1 ++ zeros j.m2))
+    ↔ InSpan j.f (width j) (placed_columns j) (times_matrix j.f j.r g3 b ++ (zeros j.m1 ++ zeros j.m2))
 third_span j h t3 c g3 third b hb =
     let f = j.f in
     let er : j.r ≡ t3 + c = third.size in
@@ -108,12 +109,12 @@ third_span j h t3 c g3 third b hb =
     let basis = completed_is_basis f j.r g3 third.rows third.independent in
     let hz = subst (λ n. IsVector f n (b ++ zeros (c + (j.m1 + j.m2)))) w
     (IsVector-append f t3 (c + (j.m1 + j.m2)) b (zeros (c + (j.m1 + j.m2))) hb (IsVector-zeros f (c + (j.m1 + j.m2)))) in
-    let moved = span_in_coordinates f j.r (j.m1 + j.m2) (completed f j.r g3) (joined j) basis (AreVectors-joined j h)
+    let moved = span_in_coordinates f j.r (j.m1 + j.m2) (completed f j.r g3) (placed_columns j) basis (AreVectors-joined j h)
     (b ++ zeros (c + (j.m1 + j.m2))) hz in
     let stands = stands_for f t3 c j.m1 j.m2 j.r g3 (map (unit j.r) (free_columns f j.r g3)) b er third.count third.rows
     (AreVectors-free f j.r g3) hb.len in (
-      (λ p. subst (λ v. InSpan f (width j) (joined j) v) stands (moved.0 p)),
-      (λ p. moved.1 (subst (λ v. InSpan f (width j) (joined j) v) (sym stands) p)),
+      (λ p. subst (λ v. InSpan f (width j) (placed_columns j) v) stands (moved.0 p)),
+      (λ p. moved.1 (subst (λ v. InSpan f (width j) (placed_columns j) v) (sym stands) p)),
     )
 
 -- its boundary space is all b such that b times the third boundary is in the sum of the images
@@ -138,7 +139,7 @@ pub union_independent : (j : Sides) → AreSides j → (t3 c : ℕ) (g3 : List (
     × MeetTrivially j.r (InImage1 j) (InImage2 j))
 union_independent j h t3 c g3 third i1 i2 =
     let b = completed_is_basis j.f j.r g3 third.rows third.independent in
-    let moved = independent_in_coordinates j.f j.r (j.m1 + j.m2) (completed j.f j.r g3) (joined j) b (AreVectors-joined j h) in (
+    let moved = independent_in_coordinates j.f j.r (j.m1 + j.m2) (completed j.f j.r g3) (placed_columns j) b (AreVectors-joined j h) in (
       (λ p. let q = moved.0 p in (left_independent j h q, right_independent j h q, images_meet_in_zero j h q)),
       (λ p. moved.1 (joined_independent j h i1 i2 p.0 p.1 p.2)),
     )
@@ -196,7 +197,7 @@ join_test j h t3 c g3 third i1 i2 =
 -- the boundary space at a join is the preimage of the sum of the images
 pub join_space : (j : Sides) → AreSides j → (t3 c : ℕ) (g3 : List (List ℕ)) → IsThird j t3 c g3 →
     boundary_space j.f t3 (c + (j.m1 + j.m2)) (join_columns j g3) ≡ preimage j.f t3 j.r g3 (own_images1 j ++ own_images2 j)
-unfolding boundary_space preimage
+unfolding head_of_span preimage
 join_space j h t3 c g3 third =
     let f = j.f in
     let m = c + (j.m1 + j.m2) in

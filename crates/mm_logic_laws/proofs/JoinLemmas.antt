@@ -5,13 +5,50 @@ use Rattle.std.proofs.lemmas.List.Elements.{All-append}
 use Rattle.mm_field.specs.declared.Field.{Field}
 use Rattle.mm_field.specs.Digits.{negative}
 use Rattle.mm_field.specs.Vectors.{zeros, vector_sum, multiple, combination, IsVector, AreVectors, InSpan, AreIndependent, times_matrix}
-use Rattle.mm_linear.specs.Joins.{left_column, right_column, InImage, InSum, Sides, AreSides, joined, width, InImage1, InImage2}
-use Rattle.mm_linear.specs.Meets.{MeetTrivially}
+use Rattle.mm_linear.specs.Sums.{InImage, InSum, MeetTrivially}
+use Rattle.mm_logic.specs.PresentMatrix.{left_column, right_column}
+use Rattle.mm_logic.specs.BoundarySpaces.{InBoundary}
 use Rattle.mm_field.proofs.VectorLemmas.{vector_sum_assoc, multiple-zeros, vector_sum-zeros, zeros-vector_sum, opposite-vector_sum, IsVector-zeros, IsVector-vector_sum, IsVector-multiple}
 use Rattle.mm_field.proofs.PartLemmas.{combination-map, IsVector-take, IsVector-drop, IsVector-append, AreVectors-map, zeros-append, append_parts}
 use Rattle.mm_field.proofs.CombinationLemmas.{zeros_twice, combination-vector_sum, combination-multiple, IsVector-combination, combination-zeros, combination-append, take-vector_sum, take-multiple, drop-vector_sum, drop-multiple, vector_sum-append, multiple-append, InSpan-multiple}
 
--- A combination of the images under a linear map is the image of the combination.
+-- Two sets of columns and the operator that joins them: the left ones have t1 boundary and m1 internal digits, the right
+-- ones t2 and m2, and g1 and g2 have rows of r digits.
+pub record Sides : Type 0 where
+  pub f : Field
+  pub t1 : ℕ
+  pub t2 : ℕ
+  pub m1 : ℕ
+  pub m2 : ℕ
+  pub r : ℕ
+  pub g1 : List (List ℕ)
+  pub g2 : List (List ℕ)
+  pub columns1 : List (List ℕ)
+  pub columns2 : List (List ℕ)
+
+pub record AreSides (j : Sides) : Type 0 where
+  pub rows1 : AreVectors j.f j.r j.g1
+  pub rows2 : AreVectors j.f j.r j.g2
+  pub count1 : length j.g1 ≡ j.t1
+  pub count2 : length j.g2 ≡ j.t2
+  pub each1 : AreVectors j.f (j.t1 + j.m1) j.columns1
+  pub each2 : AreVectors j.f (j.t2 + j.m2) j.columns2
+
+-- the columns of both sides, with their boundary digits as vectors of the space of the join
+abbrev pub placed_columns : Sides → List (List ℕ)
+placed_columns j =
+    map (left_column j.f j.t1 j.r j.g1 j.m2) j.columns1 ++ map (right_column j.f j.t2 j.r j.g2 j.m1) j.columns2
+
+abbrev pub width : Sides → ℕ
+width j = j.r + (j.m1 + j.m2)
+
+-- the images of the boundary spaces
+abbrev pub InImage1 : Sides → List ℕ → Type 0
+InImage1 j z = InImage j.f j.t1 j.r j.g1 (InBoundary j.f j.t1 j.m1 j.columns1) z
+
+abbrev pub InImage2 : Sides → List ℕ → Type 0
+InImage2 j z = InImage j.f j.t2 j.r j.g2 (InBoundary j.f j.t2 j.m2 j.columns2) z
+
 -- the sum of a column of the left child and one of the right child, as columns of the join
 pub columns_sum : (f : Field) (t1 t2 m1 m2 r : ℕ) (g1 g2 : List (List ℕ)) → AreVectors f r g1 → AreVectors f r g2 →
     (u w : List ℕ) → IsVector f (t1 + m1) u → IsVector f (t2 + m2) w →
@@ -135,13 +172,13 @@ AreVectors-left j h =
     AreVectors-map j.f (j.t1 + j.m1) (width j) (left_column j.f j.t1 j.r j.g1 j.m2)
     (IsVector-left j.f j.t1 j.m1 j.r j.m2 j.g1 h.rows1) j.columns1 h.each1
 
-pub AreVectors-joined : (j : Sides) → AreSides j → AreVectors j.f (width j) (joined j)
+pub AreVectors-joined : (j : Sides) → AreSides j → AreVectors j.f (width j) (placed_columns j)
 AreVectors-joined j h =
     All-append (λ v. IsVector j.f (width j) v) _ _ (AreVectors-left j h) (AreVectors-right j h)
 
 -- a combination of all columns of the join, by its three parts
 pub combination-joined : (j : Sides) → AreSides j → (x y : List ℕ) → length x ≡ length j.columns1 →
-    combination j.f (width j) (x ++ y) (joined j)
+    combination j.f (width j) (x ++ y) (placed_columns j)
     ≡ vector_sum j.f (times_matrix j.f j.r j.g1 (take j.t1 (left_sum j x))) (times_matrix j.f j.r j.g2 (take j.t2 (right_sum j y)))
     ++ (drop j.t1 (left_sum j x) ++ drop j.t2 (right_sum j y))
 combination-joined j h x y e =
@@ -203,7 +240,7 @@ in_right j h y hy e =
 
 -- an image under -1
 InImage-multiple : (f : Field) (t m r c : ℕ) (columns g : List (List ℕ)) (z : List ℕ) →
-    InImage f t m r columns g z → InImage f t m r columns g (multiple f c z)
+    InImage f t r g (InBoundary f t m columns) z → InImage f t r g (InBoundary f t m columns) (multiple f c z)
 InImage-multiple f t m r c columns g z p = record {
   source = multiple f c p.source;
   vector = IsVector-multiple f t c p.source p.vector.len;
@@ -226,7 +263,7 @@ record Parts (j : Sides) (x y z : List ℕ) : Type 0 where
   low2 : drop j.t2 (right_sum j y) ≡ zeros j.m2
 
 parts : (j : Sides) → AreSides j → (x y z : List ℕ) → length x ≡ length j.columns1 → length z ≡ j.r →
-    combination j.f (width j) (x ++ y) (joined j) ≡ z ++ (zeros j.m1 ++ zeros j.m2) → Parts j x y z
+    combination j.f (width j) (x ++ y) (placed_columns j) ≡ z ++ (zeros j.m1 ++ zeros j.m2) → Parts j x y z
 parts j h x y z e lz s =
     let hu = IsVector-combination j.f (j.t1 + j.m1) x j.columns1 h.each1 in
     let p = IsVector-combination j.f j.r (take j.t1 (left_sum j x)) j.g1 h.rows1 in
@@ -237,7 +274,7 @@ parts j h x y z e lz s =
     ((IsVector-drop j.f j.t1 j.m1 (left_sum j x) hu).len ∙ sym (length-replicate j.m1 0)) cut.1 in
     record { top = cut.0; low1 = low.0; low2 = low.1 }
 
-pub length-joined : (j : Sides) → length (joined j) ≡ length j.columns1 + length j.columns2
+pub length-joined : (j : Sides) → length (placed_columns j) ≡ length j.columns1 + length j.columns2
 length-joined j =
     length-append (map (left_column j.f j.t1 j.r j.g1 j.m2) j.columns1) (map (right_column j.f j.t2 j.r j.g2 j.m1) j.columns2)
     ∙ ap₂ (λ x y. x + y)
@@ -248,7 +285,7 @@ length-joined j =
 pub joined_independent : (j : Sides) → AreSides j →
     AreIndependent j.f j.r j.g1 → AreIndependent j.f j.r j.g2 →
     AreIndependent j.f (j.t1 + j.m1) j.columns1 → AreIndependent j.f (j.t2 + j.m2) j.columns2 →
-    MeetTrivially j.r (InImage1 j) (InImage2 j) → AreIndependent j.f (width j) (joined j)
+    MeetTrivially j.r (InImage1 j) (InImage2 j) → AreIndependent j.f (width j) (placed_columns j)
 joined_independent j h ig1 ig2 ic1 ic2 meet cs each s =
     let k1 = length j.columns1 in
     let k2 = length j.columns2 in
@@ -265,7 +302,7 @@ joined_independent j h ig1 ig2 ic1 ic2 meet cs each s =
     let z2 = times_matrix j.f j.r j.g2 (take j.t2 w) in
     let hz1 = IsVector-combination j.f j.r (take j.t1 u) j.g1 h.rows1 in
     let hz2 = IsVector-combination j.f j.r (take j.t2 w) j.g2 h.rows2 in
-    let target = ap (λ c. combination j.f (width j) c (joined j)) (take-append-drop k1 cs) ∙ s
+    let target = ap (λ c. combination j.f (width j) c (placed_columns j)) (take-append-drop k1 cs) ∙ s
     ∙ sym (zeros-append j.r (j.m1 + j.m2)) ∙ ap (λ c. zeros j.r ++ c) (sym (zeros-append j.m1 j.m2)) in
     let ps = parts j h x y (zeros j.r) hx.len (length-replicate j.r 0) target in
     let i1 = in_left j h x hx ps.low1 in
@@ -287,7 +324,7 @@ take-combined : (j : Sides) → AreSides j → (x y : List ℕ) (z1 z2 : List �
     (b1 b2 : List ℕ) → IsVector j.f j.t1 b1 → IsVector j.f j.t2 b2 →
     left_sum j x ≡ b1 ++ zeros j.m1 → right_sum j y ≡ b2 ++ zeros j.m2 →
     times_matrix j.f j.r j.g1 b1 ≡ z1 → times_matrix j.f j.r j.g2 b2 ≡ z2 →
-    combination j.f (width j) (x ++ y) (joined j) ≡ vector_sum j.f z1 z2 ++ (zeros j.m1 ++ zeros j.m2)
+    combination j.f (width j) (x ++ y) (placed_columns j) ≡ vector_sum j.f z1 z2 ++ (zeros j.m1 ++ zeros j.m2)
 take-combined j h x y z1 z2 e b1 b2 hb1 hb2 e1 e2 g1 g2 =
     combination-joined j h x y e
     ∙ ap₂ (λ p q. p ++ q)
@@ -299,7 +336,7 @@ take-combined j h x y z1 z2 e b1 b2 hb1 hb2 e1 e2 g1 g2 =
     (ap (drop j.t2) e2 ∙ drop_at b2 (zeros j.m2) j.t2 hb2.len))
 
 IsVector-joined : (j : Sides) (x y : List ℕ) → IsVector j.f (length j.columns1) x → IsVector j.f (length j.columns2) y →
-    IsVector j.f (length (joined j)) (x ++ y)
+    IsVector j.f (length (placed_columns j)) (x ++ y)
 IsVector-joined j x y hx hy =
     subst (λ n. IsVector j.f n (x ++ y)) (sym (length-joined j))
     (IsVector-append j.f (length j.columns1) (length j.columns2) x y hx hy)
@@ -309,14 +346,14 @@ all_zero_width j = ap (λ c. zeros j.r ++ c) (zeros-append j.m1 j.m2) ∙ zeros-
 
 -- the two parts of coefficients that are all zero
 zero_coefficients : (j : Sides) (x y : List ℕ) → length x ≡ length j.columns1 →
-    x ++ y ≡ zeros (length (joined j)) → (x ≡ zeros (length j.columns1)) × (y ≡ zeros (length j.columns2))
+    x ++ y ≡ zeros (length (placed_columns j)) → (x ≡ zeros (length j.columns1)) × (y ≡ zeros (length j.columns2))
 zero_coefficients j x y e s =
     append_parts x (zeros (length j.columns1)) y (zeros (length j.columns2))
     (e ∙ sym (length-replicate (length j.columns1) 0))
     (s ∙ ap zeros (length-joined j) ∙ sym (zeros-append (length j.columns1) (length j.columns2)))
 
 -- Where the union is independent, both sides are.
-pub left_independent : (j : Sides) → AreSides j → AreIndependent j.f (width j) (joined j) →
+pub left_independent : (j : Sides) → AreSides j → AreIndependent j.f (width j) (placed_columns j) →
     AreIndependent j.f (j.t1 + j.m1) j.columns1
 left_independent j h ind x hx s =
     let y = zeros (length j.columns2) in
@@ -330,7 +367,7 @@ left_independent j h ind x hx s =
     (c ∙ ap (λ p. p ++ (zeros j.m1 ++ zeros j.m2)) (zeros_twice j.f j.r) ∙ all_zero_width j) in
     (zero_coefficients j x y hx.len all).0
 
-pub right_independent : (j : Sides) → AreSides j → AreIndependent j.f (width j) (joined j) →
+pub right_independent : (j : Sides) → AreSides j → AreIndependent j.f (width j) (placed_columns j) →
     AreIndependent j.f (j.t2 + j.m2) j.columns2
 right_independent j h ind y hy s =
     let x = zeros (length j.columns1) in
@@ -345,7 +382,7 @@ right_independent j h ind y hy s =
     (zero_coefficients j x y hx.len all).1
 
 -- Where the union is independent, the images meet in zero alone.
-pub images_meet_in_zero : (j : Sides) → AreSides j → AreIndependent j.f (width j) (joined j) →
+pub images_meet_in_zero : (j : Sides) → AreSides j → AreIndependent j.f (width j) (placed_columns j) →
     MeetTrivially j.r (InImage1 j) (InImage2 j)
 images_meet_in_zero j h ind z p q =
     let q' = InImage-multiple j.f j.t2 j.m2 j.r (negative j.f 1) j.columns2 j.g2 z q in
@@ -370,7 +407,7 @@ images_meet_in_zero j h ind z p q =
 
 -- The boundary span of the union is what lies in the sum of the images.
 pub boundary_in_sum : (j : Sides) → AreSides j → (z : List ℕ) → length z ≡ j.r →
-    InSpan j.f (width j) (joined j) (z ++ (zeros j.m1 ++ zeros j.m2)) →
+    InSpan j.f (width j) (placed_columns j) (z ++ (zeros j.m1 ++ zeros j.m2)) →
     InSum j.f (InImage1 j) (InImage2 j) z
 boundary_in_sum j h z lz p =
     let k1 = length j.columns1 in
@@ -382,7 +419,7 @@ boundary_in_sum j h z lz p =
     let hx = IsVector-take j.f k1 k2 cs hcs in
     let hy = IsVector-drop j.f k1 k2 cs hcs in
     let ps = parts j h x y z hx.len lz
-    (ap (λ c. combination j.f (width j) c (joined j)) (take-append-drop k1 cs) ∙ p.sum) in
+    (ap (λ c. combination j.f (width j) c (placed_columns j)) (take-append-drop k1 cs) ∙ p.sum) in
     record {
       one = times_matrix j.f j.r j.g1 (take j.t1 (left_sum j x));
       other = times_matrix j.f j.r j.g2 (take j.t2 (right_sum j y));
@@ -393,7 +430,7 @@ boundary_in_sum j h z lz p =
 
 pub sum_in_boundary : (j : Sides) → AreSides j → (z : List ℕ) →
     InSum j.f (InImage1 j) (InImage2 j) z →
-    InSpan j.f (width j) (joined j) (z ++ (zeros j.m1 ++ zeros j.m2))
+    InSpan j.f (width j) (placed_columns j) (z ++ (zeros j.m1 ++ zeros j.m2))
 sum_in_boundary j h z s =
     let p = s.in_first in
     let q = s.in_second in
