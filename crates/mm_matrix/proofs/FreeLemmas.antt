@@ -16,7 +16,7 @@ use Rattle.mm_linear.specs.Coordinates.{unit, is_pivot, free_columns}
 use Rattle.mm_linear.proofs.SubspaceTests.{Contains-filter, Contains-map}
 use Rattle.mm_linear.proofs.EchelonLemmas.{zero_not_one}
 use Rattle.mm_linear.proofs.IndependenceLemmas.{independent_more}
-use Rattle.mm_linear.proofs.LeafLemmas.{none_independent}
+use Rattle.mm_linear.proofs.IndependenceLemmas.{none_independent}
 use Rattle.mm_linear.proofs.PivotLemmas.{pivots_are_leads, count_leads}
 use Rattle.mm_linear.proofs.BasisLemmas.{IsVector-unit, get_or-unit, get_or-unit_other, completed_is_basis, free_count}
 use Rattle.mm_linear.specs.ReducedEchelon.{Leads, reduced_basis}
