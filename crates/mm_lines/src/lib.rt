@@ -21,8 +21,6 @@ mod laws;
 mod line;
 mod numbers;
 mod place;
-#[cfg(test)]
-mod tests;
 mod token;
 
 pub use framer::Framer;

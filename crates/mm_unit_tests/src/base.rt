@@ -1,7 +1,7 @@
 //! What no clause says: that each call succeeds with memory at hand, and values from outside.
 ghost use Rattle.std.specs.Prelude.{◌≡◌, ◌<◌};
 
-use crate::{
+use mm_base::{
     MemorySink, MemorySource, Name, NameList, NoMemory, Sink, SinkFault, Source, Status, StdSink,
     Steps, SureSink, SureSource, Text, TextFault, write_all,
 };
@@ -27,7 +27,7 @@ fn names_are_read(rt: HostRuntime) {
 }
 
 #[test]
-fn lists_and_texts_grow(rt: HostRuntime) -> Result<(), crate::NoMemory> {
+fn lists_and_texts_grow(rt: HostRuntime) -> Result<(), NoMemory> {
     let mut names = NameList::new(rt.alloc());
     if let Some(name) = Name::read(b"ab") {
         names.push(rt.alloc(), name)?;
@@ -52,7 +52,7 @@ fn read_two<S: Source>(source: &mut S) -> usize {
 }
 
 #[test]
-fn sources_give_their_bytes(rt: HostRuntime) -> Result<(), crate::NoMemory> {
+fn sources_give_their_bytes(rt: HostRuntime) -> Result<(), NoMemory> {
     let mut source = MemorySource::new(rt.alloc(), b"abc", 5, &[2])?;
     assert_eq!(rt; read_two(&mut source), 2);
     assert_eq!(rt; read_two(&mut source), 9);
@@ -66,7 +66,7 @@ fn sources_give_their_bytes(rt: HostRuntime) -> Result<(), crate::NoMemory> {
 }
 
 #[test]
-fn sinks_take_pieces(rt: HostRuntime) -> Result<(), crate::NoMemory> {
+fn sinks_take_pieces(rt: HostRuntime) -> Result<(), NoMemory> {
     let mut sink = MemorySink::new(rt.alloc(), 2, &[3])?;
     assert!(rt; write_all(&mut sink, b"abc").is_ok());
     assert!(rt; write_all(&mut sink, b"de") == Err(SinkFault::Failed));

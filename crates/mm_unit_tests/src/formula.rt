@@ -1,5 +1,5 @@
 //! Values from outside the program, and each call that takes memory once.
-use crate::{Connective, Formula, Term, Var, VarList};
+use mm_formula::{Connective, Formula, Term, Var, VarList};
 use std::test::Fail;
 
 #[test]

@@ -1,5 +1,5 @@
 //! Values from outside, and each call once with memory at hand.
-use crate::{Framer, Line, LineText, read_i64, read_u32};
+use mm_lines::{Framer, Line, LineText, read_i64, read_u32};
 use mm_base::NoMemory;
 use std::alloc::Global;
 

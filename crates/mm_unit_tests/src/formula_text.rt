@@ -4,7 +4,7 @@ ghost use Rattle.std.specs.List.{list_all};
 ghost use Rattle.mm_formula.specs.Variables.{is_set};
 ghost use Rattle.mm_formula.specs.Scope.{outermost};
 
-use crate::{ReadFault, print, read};
+use mm_formula_text::{ReadFault, print, read};
 use mm_base::{NoMemory, Text};
 use mm_formula::{ScopeFault, Scoped, Var};
 use std::alloc::Global;
