@@ -4,7 +4,7 @@ use Rattle.std.proofs.lemmas.List.{length-map}
 use Rattle.mm_field.specs.declared.Field.{Field}
 use Rattle.mm_field.specs.Vectors.{zeros, vector_sum, combination, IsVector, AreVectors, InSpan, times_matrix}
 use Rattle.mm_linear.specs.Sums.{InSum, InImage}
-use Rattle.mm_field.proofs.VectorLemmas.{vector_sum-zeros, zeros-vector_sum}
+use Rattle.mm_field.proofs.VectorLemmas.{vector_sum_comm, vector_sum-zeros, zeros-vector_sum}
 use Rattle.mm_field.proofs.CombinationLemmas.{IsVector-combination, combination-append, combination-times_matrix, InSpan-zeros}
 use Rattle.mm_field.proofs.PartLemmas.{IsVector-take, IsVector-drop, IsVector-append, AreVectors-map}
 
@@ -43,6 +43,16 @@ append_from_InSum f n rows sows z hs s =
           ∙ ap₂ (λ x y. vector_sum f x y) p.sum q.sum
           ∙ s.sum;
     }
+
+-- a sum the other way round
+pub InSum-swapped : (f : Field) (first second : List ℕ → Type 0) (z : List ℕ) → InSum f first second z → InSum f second first z
+InSum-swapped f first second z s = record {
+  one = s.other;
+  other = s.one;
+  in_first = s.in_second;
+  in_second = s.in_first;
+  sum = vector_sum_comm f s.other s.one ∙ s.sum;
+}
 
 pub append_left_in : (f : Field) (n : ℕ) (rows sows : List (List ℕ)) (z : List ℕ) → AreVectors f n rows → AreVectors f n sows →
     InSpan f n rows z → InSpan f n (rows ++ sows) z

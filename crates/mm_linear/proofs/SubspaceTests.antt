@@ -12,10 +12,10 @@ use Rattle.mm_field.proofs.VectorLemmas.{multiple-zeros, IsVector-zeros}
 use Rattle.mm_field.proofs.CombinationLemmas.{zeros_twice, combination-vector_sum, combination-multiple, combination-zeros, IsVector-combination, vector_sum-append, multiple-append, InSpan-combination, InSpan-within, IsWithin-itself}
 use Rattle.mm_field.proofs.PartLemmas.{combination-map, AreVectors-map, IsVector-append, zeros-append}
 use Rattle.mm_linear.specs.Decide.{is_in_span}
-use Rattle.mm_linear.specs.ReducedEchelon.{reduced_basis}
+use Rattle.mm_linear.specs.ReducedEchelon.{reduced_basis, IsReducedBasis}
 use Rattle.mm_linear.specs.Subspaces.{all_vectors, subspace, head_of_span, preimage}
 use Rattle.mm_linear.proofs.SpaceLemmas.{false_true}
-use Rattle.mm_linear.proofs.ReducedEchelonLemmas.{reduced_basis_is, reduced_basis-same}
+use Rattle.mm_linear.proofs.ReducedEchelonLemmas.{reduced_basis_is, reduced_basis-same, reduced_basis-twice}
 use Rattle.mm_linear.proofs.MeetTest.{is_in_span_decides}
 use Rattle.mm_linear.proofs.BasisLemmas.{IsVector-cons}
 
@@ -140,6 +140,12 @@ subspace-of_rows f t test rows h both =
           ((both v (h k d l)).0 (IsWithin-itself f t rows h k d l)) in
           subst (λ x. InSpan f t kept x) c.2 (IsWithin-itself f t kept hk c.0 v c.1)),
     )
+
+-- a subspace is given by its reduced echelon basis
+pub subspace_is_reduced : (f : Field) (t : ℕ) (test : List ℕ → Bool) → IsReducedBasis f t (subspace f t test)
+unfolding subspace
+subspace_is_reduced f t test =
+    reduced_basis-twice f t (filter test (all_vectors f t)) (All-filter test (λ v. IsVector f t v) (all_vectors f t) (all_vectors_are f t))
 
 -- tests that agree on vectors give one subspace
 pub subspace_same : (f : Field) (t : ℕ) (p q : List ℕ → Bool) → ((b : List ℕ) → IsVector f t b → p b ≡ q b) →

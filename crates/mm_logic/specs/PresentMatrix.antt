@@ -1,6 +1,6 @@
 -- The matrix of a tree, by its columns, and independence in it.
-use Rattle.std.specs.Prelude.{◌≡◌, ℕ, ◌+◌, Bool, List, [], ◌∷◌, ◌++◌, map, take, drop, slice_index}
-use Rattle.std.specs.List.{items_where_true}
+use Rattle.std.specs.Prelude.{◌≡◌, ℕ, ◌+◌, Bool, List, [], ◌∷◌, ◌++◌, map, take, drop, slice_index, slice_index_or}
+use Rattle.std.specs.List.{items_where_true, range_with_len}
 use Rattle.mm_field.specs.declared.Field.{Field}
 use Rattle.mm_field.specs.Vectors.{zeros, vector_sum, combination, times_matrix, IsVector, AreIndependent}
 use Rattle.mm_linear.specs.Decide.{is_independent}
@@ -48,9 +48,25 @@ columns f (Join op l r) =
     (map (left_column f op.t1 (row_length op) op.g1 (internal r)) (columns f l)
     ++ map (right_column f op.t2 (row_length op) op.g2 (internal l)) (columns f r))
 
+-- Column i of the matrix of a tree.
+abbrev pub column_of : Field → Tree → ℕ → List ℕ
+column_of f T i = slice_index_or (columns f T) i []
+
+-- Row i of some columns: digit i of each.
+abbrev pub row_of : List (List ℕ) → ℕ → List ℕ
+row_of cs i = map (λ u. slice_index u i) cs
+
+-- The first n rows of some columns.
+abbrev pub first_rows : ℕ → List (List ℕ) → List (List ℕ)
+first_rows n cs = map (row_of cs) (range_with_len 0 n)
+
 -- Row i of the matrix of a tree: the boundary rows come first.
 abbrev pub matrix_row : Field → Tree → ℕ → List ℕ
-matrix_row f T i = map (λ u. slice_index u i) (columns f T)
+matrix_row f T i = row_of (columns f T) i
+
+-- The boundary rows of the matrix of a tree.
+abbrev pub boundary_rows : Field → Tree → List (List ℕ)
+boundary_rows f T = first_rows (boundary T) (columns f T)
 
 -- Internal row i of the matrix of a tree.
 abbrev pub internal_row : Field → Tree → ℕ → List ℕ
