@@ -1,5 +1,6 @@
 mod TextLemmas
 mod GenTextLemmas
+pub mod DigitTextLemmas
 mod RowLemmas
 pub mod KeptLemmas
 mod SumSteps

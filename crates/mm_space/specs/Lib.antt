@@ -1,3 +1,4 @@
+pub mod DigitTexts
 pub mod GenView
 pub mod Images
 pub mod Insertion
