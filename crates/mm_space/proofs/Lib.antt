@@ -12,3 +12,8 @@ mod ReversedLemmas
 mod PackLemmas
 mod PackSteps
 pub mod JoinRule
+mod MarkLemmas
+mod MarkedSteps
+mod FaithfulLemmas
+mod FormLemmas
+mod JoinSteps
