@@ -4,7 +4,7 @@
 //! down as tags before it. So a combination of these rows that is zero but for its tags tells which b has b*G3 in the sum of
 //! the images, and elimination from the right finds all of them.
 
-ghost use Rattle.std.specs.Prelude.{◌≡◌, ◌<◌, ◌≤◌, ◌+◌, ◌-◌, ◌++◌, [], length, map, take, slice_index_or, All, true, false, replicate};
+ghost use Rattle.std.specs.Prelude.{◌≡◌, ◌<◌, ◌≤◌, ◌+◌, ◌-◌, ◌*◌, ◌/◌, ◌%◌, ◌^◌, ◌++◌, [], length, map, take, slice_index_or, All, true, false, replicate};
 ghost use Rattle.mm_field.specs.Vectors.{AreVectors, AreIndependent, InSpan, SameRowSpace, combination, zeros};
 ghost use Rattle.mm_linear.specs.Echelons.{EndsAt};
 ghost use Rattle.mm_linear.specs.Meets.{MeetTrivially};
@@ -18,7 +18,7 @@ use crate::join_rows::JoinRows;
 use crate::key::Key;
 use crate::rows::{Row, Rows, ZERO_ROWS, reduced};
 use crate::{MAX_DIGITS, MAX_ROWS, WIDTH};
-use mm_field::{Field, lanes};
+use mm_field::{Elt, Field, lanes};
 use std::marker::Model;
 
 /// The rows of a matrix, and zero rows.
@@ -189,14 +189,24 @@ fn times_rows(f: Field, key: &Key, i: u8, form: &FormRows) -> Row
     requires vectors { AreVectors f 24 (take key.now.t form.now) }
     ensures { result ≡ combination f 24 (slice_index_or key.now.rows i []) (take key.now.t form.now) }
 {
+    let digits = key.row_digits(i);
     let mut out = [0; WIDTH];
     for j in (0..key.t()).rev() {
-        let d = key.at(i, j);
+        let d = number_of(digits, j);
         if d != 0 {
             lanes::axpy(f, d, &form[j as usize], &mut out);
         }
     }
     out
+}
+
+// Number j of those that are packed in three bits each.
+#[inline(always)]
+fn number_of(digits: u32, j: u8) -> Elt
+    requires { j < 6 }
+    ensures { result ≡ digits / 2 ^ (3 * j) % 8 }
+{
+    ((digits >> (3 * j)) % 8) as u8
 }
 
 // Makes zero rows into kept rows that span all rows of the key times the rows.

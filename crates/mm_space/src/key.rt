@@ -1,7 +1,7 @@
 //! A subspace of F^t, t at most 6, packed in one number.
 #![tactic(auto)]
 
-ghost use Rattle.std.specs.Prelude.{◌≡◌, ◌≢◌, ◌<◌, ◌≤◌, ◌+◌, ◌*◌, ◌^◌, ◌↔◌, ℕ, List, [], ◌∷◌, length, map, reverse, take, slice_index, slice_index_or, All, true, false};
+ghost use Rattle.std.specs.Prelude.{◌≡◌, ◌≢◌, ◌<◌, ◌≤◌, ◌+◌, ◌*◌, ◌/◌, ◌%◌, ◌^◌, ◌↔◌, ℕ, List, [], ◌∷◌, length, map, reverse, take, slice_index, slice_index_or, All, true, false};
 ghost use Rattle.mm_field.specs.Digits.{order};
 ghost use Rattle.mm_field.specs.Vectors.{AreDigits};
 ghost use Rattle.mm_linear.specs.Echelons.{IsEchelon, entry};
@@ -165,6 +165,15 @@ impl Key {
         ensures { result ≡ slice_index (slice_index_or self.now.rows i []) j }
     {
         number_at(self.bits, 3 + self.t() * i + j)
+    }
+
+    /// The digits of basis row i, three bits each, the first one lowest.
+    #[inline(always)]
+    pub(crate) fn row_digits(&self, i: u8) -> u32
+        requires row { i < length self.now.rows }
+        ensures { (j : ℕ) → j < self.now.t → result / 2 ^ (3 * j) % 8 ≡ slice_index (slice_index_or self.now.rows i []) j }
+    {
+        ((self.bits >> (9 + 3 * self.t() * i)) % 262144) as u32
     }
 }
 

@@ -23,8 +23,8 @@ axpy-requires-clause-factor c =
     let hv = key.each c.args.i [] c.requires.row in
     let low = c.loop-j.invariant.low in
     let long : length (get_or c.args.key.now.rows c.args.i []) ≡ c.args.key.now.t = hv.len in
-    subst (λ f. c.at-d.result < order f) c.requires.field
-    (subst (λ d. d < order c.args.key.now.f) (sym c.at-d.ensures) (hv.digits (c.loop-j.j - 1) 0 (omega arith)))
+    subst (λ f. c.number_of-d.result < order f) c.requires.field
+    (subst (λ d. d < order c.args.key.now.f) (sym (c.number_of-d.ensures ∙ c.row_digits-digits.ensures (c.loop-j.j - 1) (omega arith))) (hv.digits (c.loop-j.j - 1) 0 (omega arith)))
 
 pub axpy-requires-clause-digits_x : goal.axpy-requires-clause-digits_x
 axpy-requires-clause-digits_x c =
@@ -60,8 +60,8 @@ loop-j-preserved-then-d-ne0 c =
     (IsVector-combination f 24 _ _ (All-drop (λ v. IsVector f 24 v) c.loop-j.j T c.requires.vectors)) in
     record {
       low = omega arith;
-      out_is = times_step f 24 row T c.loop-j.j c.loop-j.out c.at-d.result x c.axpy.new.y (omega arith) (omega arith) (omega arith)
-          c.loop-j.invariant.out_is c.at-d.ensures (sym x_is) c.axpy.ensures;
+      out_is = times_step f 24 row T c.loop-j.j c.loop-j.out c.number_of-d.result x c.axpy.new.y (omega arith) (omega arith) (omega arith)
+          c.loop-j.invariant.out_is (c.number_of-d.ensures ∙ c.row_digits-digits.ensures (c.loop-j.j - 1) (omega arith)) (sym x_is) c.axpy.ensures;
     }
 
 pub loop-j-preserved : goal.loop-j-preserved
@@ -83,7 +83,7 @@ loop-j-preserved c =
     (IsVector-combination f 24 _ _ (All-drop (λ v. IsVector f 24 v) c.loop-j.j T c.requires.vectors)) in
     record {
       low = omega arith;
-      out_is = times_step f 24 row T c.loop-j.j c.loop-j.out c.at-d.result x c.loop-j.out (omega arith) (omega arith) (omega arith)
-          c.loop-j.invariant.out_is c.at-d.ensures (sym x_is)
-          (add_no_multiple f c.at-d.result x c.loop-j.out c.if-d-ne0.false (hx.len ∙ sym ho.len) ho.digits);
+      out_is = times_step f 24 row T c.loop-j.j c.loop-j.out c.number_of-d.result x c.loop-j.out (omega arith) (omega arith) (omega arith)
+          c.loop-j.invariant.out_is (c.number_of-d.ensures ∙ c.row_digits-digits.ensures (c.loop-j.j - 1) (omega arith)) (sym x_is)
+          (add_no_multiple f c.number_of-d.result x c.loop-j.out c.if-d-ne0.false (hx.len ∙ sym ho.len) ho.digits);
     }
