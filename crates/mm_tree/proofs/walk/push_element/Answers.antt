@@ -1,6 +1,6 @@
 use Rattle.std.proofs.Common.{◌++◌, sym, ap, ◌∙◌, append-nil}
-use Rattle.mm_present.proofs.NameLemmas.{no_element}
-use Rattle.mm_present.proofs.elements.push_leaf.Goals as goal
+use Rattle.mm_tree.proofs.ElementLemmas.{no_element}
+use Rattle.mm_tree.proofs.walk.push_element.Goals as goal
 
 pub returns-in-None : goal.returns-in-None
 returns-in-None c =
