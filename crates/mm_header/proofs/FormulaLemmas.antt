@@ -10,7 +10,7 @@ use Rattle.mm_formula_text.specs.Parser.{run, start}
 use Rattle.mm_formula_text.specs.Tokens.{tokens}
 use Rattle.mm_formula_text.proofs.ReadsAllLemmas.{run_reads}
 use Rattle.mm_formula_text.proofs.ReadsOnlyLemmas.{run_derives}
-use Rattle.mm_job.specs.Meaning.{formula_of}
+use Rattle.mm_header.specs.Queries.{formula_of}
 
 pub derived_formula : (F : Syntax) (text : List ℕ) → IsTextOf F text → formula_of text ≡ Some F
 unfolding formula_of

@@ -13,7 +13,7 @@ use Rattle.mm_tree.specs.NamedTree.{is_one_of}
 use Rattle.mm_tree.proofs.BuilderLemmas.{distinct_push}
 use Rattle.mm_job_text.specs.Checks.{◌>>=◌, ◌>>◌, require, unless}
 use Rattle.mm_job_text.specs.HeaderLines.{elements_line, with_name, with_names}
-use Rattle.mm_job_text.specs.OperatorLines.{added, op_line, operator_line, operator_line}
+use Rattle.mm_job_text.specs.OperatorLines.{added, op_line, operator_fields, operator_line}
 use Rattle.mm_job_text.specs.declared.format.Format.{Format}
 use Rattle.mm_job_text.specs.declared.refusal.Refusal.{Refusal}
 
@@ -38,24 +38,24 @@ name_kept names name new first last false false is h d = no_value last new h
 name_kept names name new first last false true is h d =
     subst (λ (l : List (List ℕ)). IsDistinct bytes_eq l) (same_value (names ++ name ∷ []) new h) (distinct_push names name d is)
 
-names_step : (n : ℕ) (ts names new : List (List ℕ)) (r : Result (List (List ℕ)) Refusal) → (r >>= λ more. with_names n more ts) ≡ Ok new
+names_step : (most n : ℕ) (ts names new : List (List ℕ)) (r : Result (List (List ℕ)) Refusal) → (r >>= λ more. with_names most n more ts) ≡ Ok new
     → ((more : List (List ℕ)) → r ≡ Ok more → IsDistinct bytes_eq more)
-    → ((more : List (List ℕ)) → IsDistinct bytes_eq more → with_names n more ts ≡ Ok new → IsDistinct bytes_eq new) → IsDistinct bytes_eq new
-names_step n ts names new (Err e) h one rest = no_value e new h
-names_step n ts names new (Ok more) h one rest = rest more (one more refl) h
+    → ((more : List (List ℕ)) → IsDistinct bytes_eq more → with_names most n more ts ≡ Ok new → IsDistinct bytes_eq new) → IsDistinct bytes_eq new
+names_step most n ts names new (Err e) h one rest = no_value e new h
+names_step most n ts names new (Ok more) h one rest = rest more (one more refl) h
 
-names_kept : (n : ℕ) (ts names new : List (List ℕ)) → with_names n names ts ≡ Ok new → IsDistinct bytes_eq names → IsDistinct bytes_eq new
-names_kept n [] names new h d = subst (λ (l : List (List ℕ)). IsDistinct bytes_eq l) (same_value names new h) d
-names_kept n (t ∷ ts) names new h d =
-    names_step n ts names new (with_name n names t) h (λ more is. name_kept names t more _ _ (is_one_of t names) _ refl is d) (λ more d more_is. names_kept n ts more new more_is d)
+names_kept : (most n : ℕ) (ts names new : List (List ℕ)) → with_names most n names ts ≡ Ok new → IsDistinct bytes_eq names → IsDistinct bytes_eq new
+names_kept most n [] names new h d = subst (λ (l : List (List ℕ)). IsDistinct bytes_eq l) (same_value names new h) d
+names_kept most n (t ∷ ts) names new h d =
+    names_step most n ts names new (with_name most n names t) h (λ more is. name_kept names t more _ _ (is_one_of t names) _ refl is d) (λ more d more_is. names_kept most n ts more new more_is d)
 
-line_kept : (n : ℕ) (ts names new : List (List ℕ)) (e : Refusal) (b : Bool) → (require b e >> with_names n names ts) ≡ Ok new → IsDistinct bytes_eq names → IsDistinct bytes_eq new
-line_kept n ts names new e true h d = names_kept n ts names new h d
-line_kept n ts names new e false h d = no_value e new h
+line_kept : (most n : ℕ) (ts names new : List (List ℕ)) (e : Refusal) (b : Bool) → (require b e >> with_names most n names ts) ≡ Ok new → IsDistinct bytes_eq names → IsDistinct bytes_eq new
+line_kept most n ts names new e true h d = names_kept most n ts names new h d
+line_kept most n ts names new e false h d = no_value e new h
 
-pub elements_kept : (names new : List (List ℕ)) (r : Line) → elements_line names r ≡ Ok new → IsDistinct bytes_eq names → IsDistinct bytes_eq new
+pub elements_kept : (most : ℕ) (names new : List (List ℕ)) (r : Line) → elements_line most names r ≡ Ok new → IsDistinct bytes_eq names → IsDistinct bytes_eq new
 unfolding elements_line
-elements_kept names new r h d = line_kept r.number _ names new _ _ h d
+elements_kept most names new r h d = line_kept most r.number _ names new _ _ h d
 
 -- ---- operators
 
@@ -78,7 +78,7 @@ words_is (Ok x) k y h = (x, refl, h)
 operator_over : (version : Format) (f : Field) (r : Line) (named : List ℕ × OpValue) → operator_line version f r ≡ Ok named → named.1.f ≡ f
 unfolding operator_line
 operator_over version f r named h =
-    let w = words_is (operator_line version f r) _ named h in
+    let w = words_is (operator_fields version f r) _ named h in
     ap (λ (p : List ℕ × OpValue). p.1.f) (sym (unless_is _ _ named w.2))
 
 pub operators_kept : (version : Format) (f : Field) (ops new : OperatorList) (r : Line) → op_line version f ops r ≡ Ok new → AreOver f ops → AreOver f new

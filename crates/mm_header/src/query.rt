@@ -1,20 +1,19 @@
-//! The query of a job.
+//! The query line of a text.
 ghost use Rattle.std.specs.Prelude.{◌≡◌, true, IfOk, None, Some};
 ghost use Rattle.std.specs.List.{list_all};
 ghost use Rattle.mm_formula.specs.Scope.{outermost, scope_fault};
 ghost use Rattle.mm_formula.specs.Syntax.{is_well_sorted, syntax_of};
 ghost use Rattle.mm_formula.specs.Variables.{is_set};
-ghost use Rattle.mm_job.specs.HeaderStates.{Reads};
-ghost use Rattle.mm_job.specs.Meaning.{formula_of};
-ghost use Rattle.mm_job.specs.NotBuilt.{is_plain};
-ghost use Rattle.mm_job.specs.Queries.{query_value};
-ghost use Rattle.mm_job.specs.QueryLines.{StopsAs, least_query, query_line, query_of, scope_refusal, scoped, set_variable_of};
+ghost use Rattle.mm_job_text.specs.Becoming.{Reads, StopsAs};
+ghost use Rattle.mm_header.specs.QueryValues.{IsSorted, query_value, question_value};
+ghost use Rattle.mm_header.specs.Queries.{formula_of, least_query, minor_query, query_line, query_of, scope_refusal, scoped, set_variable_of, spelled_query};
 ghost use Rattle.mm_job_text.specs.Checks.{found};
+ghost use Rattle.mm_job_text.specs.Readers.{whole};
 ghost use Rattle.mm_job_text.specs.declared.refusal.Refusal.TheVariants as refusal;
 
 use mm_formula::{Formula, ScopeFault, Scoped, Var};
 use mm_formula_text::{ReadFault, read};
-use mm_job_text::{Limit, Refusal, Stop, args, begins};
+use mm_job_text::{Limit, Refusal, Stop, args, begins, is_word, too_long};
 use mm_lines::Line;
 use std::alloc::Global;
 
@@ -58,7 +57,7 @@ fn scope(alloc: Global, number: u32, formula: Formula, sought: Option<Var>) -> R
 }
 
 /// The query of this text, in the line with this number, that seeks this variable, if any.
-#[tactic(auto, unfolding(crate::specs::QueryLines::query_of))]
+#[tactic(auto, unfolding(crate::specs::Queries::query_of))]
 fn query_of(alloc: Global, number: u32, sought: Option<Var>, text: &[u8]) -> Result<Scoped, Stop>
     requires set { list_all is_set (outermost sought) ≡ true }
     ensures { Reads query_value result (query_of number sought text.now) }
@@ -84,7 +83,7 @@ fn set_variable(bytes: &[u8]) -> Option<Var>
 }
 
 /// `least X FORMULA`
-#[tactic(auto, unfolding(crate::specs::QueryLines::least_query))]
+#[tactic(auto, unfolding(crate::specs::Queries::least_query))]
 fn least_query(alloc: Global, line: &Line) -> Result<Scoped, Stop>
     ensures { Reads query_value result (least_query line.now) }
 {
@@ -98,9 +97,9 @@ fn least_query(alloc: Global, line: &Line) -> Result<Scoped, Stop>
 }
 
 /// `decide FORMULA` or `least X FORMULA`
-#[tactic(auto, unfolding(crate::specs::QueryLines::query_line))]
-pub fn read_query(alloc: Global, line: &Line) -> Result<Scoped, Stop>
-    ensures { Reads query_value result (query_line line.now) }
+#[tactic(auto, unfolding(crate::specs::Queries::spelled_query))]
+fn spelled_query(alloc: Global, line: &Line) -> Result<Scoped, Stop>
+    ensures { Reads query_value result (spelled_query line.now) }
 {
     if begins(line, b"decide") {
         return query_of(alloc, line.number, None, line.rest(1));
@@ -111,20 +110,38 @@ pub fn read_query(alloc: Global, line: &Line) -> Result<Scoped, Stop>
     Err(Stop::Refused(Refusal::Syntax(line.number)))
 }
 
-/// A formula without a quantifier.
-pub fn is_plain(formula: &Formula) -> bool
-    ensures { result ≡ is_plain (syntax_of formula.now) }
+/// `minor`, which asks whether this formula holds.
+#[tactic(auto, unfolding(crate::specs::Queries::minor_query))]
+fn minor_query(alloc: Global, formula: Formula, line: &Line) -> Result<Scoped, Stop>
+    requires { is_well_sorted (syntax_of formula) ≡ true }
+    ensures { Reads query_value result (minor_query (syntax_of formula) line.now) }
 {
-    match formula {
-        Formula::Not(body) => is_plain(body),
-        Formula::Bin(_, first, second) => {
-            if !is_plain(first) {
-                return false;
-            }
-            is_plain(second)
-        }
-        Formula::Ex(_, _) => false,
-        Formula::All(_, _) => false,
-        _ => true,
+    if !is_word(line, b"minor") {
+        return Err(Stop::Refused(Refusal::Syntax(line.number)));
+    }
+    scope(alloc, line.number, formula, None)
+}
+
+/// How a text asks.
+#[derive(Drop)]
+pub enum Question {
+    /// By the formula that its query line spells: `decide FORMULA` or `least X FORMULA`.
+    Spelled,
+    /// By the word `minor` as its query line, which asks whether this formula holds.
+    Minor(Formula),
+}
+
+/// Reads the query line of a text that asks so. Its refusals are those of a line that is too long, then of its form, then of the
+/// formula: its bytes, its grammar, its variables, its binders, its nodes.
+pub fn read_query(alloc: Global, question: Question, line: &Line) -> Result<Scoped, Stop>
+    requires { IsSorted question }
+    ensures { Reads query_value result (whole (query_line (question_value question)) line.now) }
+{
+    if let Some(refusal) = too_long(line) {
+        return Err(Stop::Refused(refusal));
+    }
+    match question {
+        Question::Spelled => spelled_query(alloc, line),
+        Question::Minor(formula) => minor_query(alloc, formula, line),
     }
 }

@@ -20,9 +20,11 @@ Becomes result new read = UnlessMemory result (λ x. read ≡ Ok new) (λ e. rea
 abbrev pub Reads : {X Y : Type 0} → (X → Y) → Result X Stop → Result Y Refusal → Type 0
 Reads shown result read = UnlessMemory result (λ x. read ≡ Ok (shown x)) (λ e. read ≡ Err e)
 
--- All lines are read as those after are, or the refusal is the one by which they are read.
+-- All lines are read as those after are, or the refusal is the one by which they are read, unless memory ran out.
 abbrev pub Goes : {X A : Type 0} → Result X Stop → Reading A → (X → Reading A) → Type 0
-Goes result all after = UnlessMemory result (λ x. all ≡ after x) (λ e. all ≡ RefusedBy e)
+Goes (Ok x) all after = all ≡ after x
+Goes (Err (Refused e)) all after = all ≡ RefusedBy e
+Goes (Err NoMemory) all after = Unit {0}
 
 -- A line stops by this refusal, or memory ran out.
 abbrev pub StopsAs : Stop → Option Refusal → Type 0

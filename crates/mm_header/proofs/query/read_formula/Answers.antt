@@ -2,8 +2,8 @@ use Rattle.std.proofs.Common.{ap}
 use Rattle.mm_formula.specs.Syntax.{syntax_of}
 use Rattle.mm_job_text.specs.Checks.{found}
 use Rattle.mm_job_text.specs.declared.refusal.Refusal.TheVariants as refusal
-use Rattle.mm_job.proofs.FormulaLemmas.{derived_formula, no_formula_read}
-use Rattle.mm_job.proofs.query.read_formula.Goals as goal
+use Rattle.mm_header.proofs.FormulaLemmas.{derived_formula, no_formula_read}
+use Rattle.mm_header.proofs.query.read_formula.Goals as goal
 
 pub returns-in-Ok-clause-read : goal.returns-in-Ok-clause-read
 returns-in-Ok-clause-read c =

@@ -1,4 +1,4 @@
-use Rattle.mm_job.proofs.header.take_head_line.Goals as goal
+use Rattle.mm_header.proofs.state.take_header_line.Goals as goal
 
 pub returns-in-Rows-clause-goes : goal.returns-in-Rows-clause-goes
 returns-in-Rows-clause-goes c = rw c.in-Rows.is c.take_rows.ensures.goes
