@@ -1,7 +1,7 @@
 use Rattle.std.proofs.Common.{◌≡◌, ◌≤◌, length}
 use Rattle.mm_job.specs.Feeding.{Fed, IsWithin, left}
 use Rattle.mm_job.specs.Stages.{IsKeptAt}
-use Rattle.mm_job.proofs.feeding.feed_lines.Given as goal
+use Rattle.mm_job.proofs.feed.feed_lines.Given as goal
 
 abbrev pub invariant-lines : goal.invariant-lines
 invariant-lines g l = record {
