@@ -4,3 +4,4 @@ pub mod OccurrenceLemmas
 pub mod BagLemmas
 pub mod GrowthLemmas
 pub mod ChosenLemmas
+mod Examples

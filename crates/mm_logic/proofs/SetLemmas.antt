@@ -7,7 +7,7 @@ use Rattle.std.specs.FinMap.{IsAntisymmetric}
 use Rattle.std.proofs.lemmas.Cmp.{tied_itself}
 use Rattle.std.proofs.lemmas.List.Folds.{list_any-append}
 use Rattle.std.proofs.lemmas.List.Elements.{All-nil, All-cons, All-head, All-tail}
-use Rattle.std.proofs.Math.Bool.{and-false}
+use Rattle.std.proofs.Math.Bool.{and-false, and-true}
 use Rattle.std.specs.declared.cmp.Ordering.{Ordering}
 use Rattle.std.specs.declared.cmp.Ordering.TheVariants.{Less, Equal, Greater}
 use Rattle.mm_logic.specs.Order.{SameMembers, by_order, insert, normal, Below, Rising}
@@ -104,10 +104,6 @@ module _ {A : Type 0} {R : A → A → Ordering} (o : IsTotalOrder R) (exact : I
   left_out : (p : A → Bool) (x : A) (xs : List A) → Below R x xs → list_any (λ y. p y && not (eq_by_cmp R x y)) xs ≡ list_any p xs
   left_out p x [] h = refl
   left_out p x (y ∷ ys) h = (λ i. (p y && not (is_eq (h.0 i))) || left_out p x ys h.1 i) ∙ ap (λ b. b || list_any p ys) (and-true (p y))
-    where
-      and-true : (b : Bool) → (b && true) ≡ b
-      and-true true = refl
-      and-true false = refl
 
   -- a set whose least value is not the other's is another set
   apart : (x y : A) (xs ys : List A) → R x y ≡ Less → Below R y ys → SameMembers (x ∷ xs) (y ∷ ys) → ⊥

@@ -2,7 +2,7 @@
 use Rattle.mm_logic.specs.Formula.Formula.{Const, Ind, Not, ExElem}
 use Rattle.mm_logic.specs.StateSize.{state_size}
 use Rattle.mm_logic.specs.StateSize.Query.{Decide}
-use Rattle.mm_logic.specs.BoundarySpaces.{ind_type}
+use Rattle.mm_logic.specs.BoundarySpaces.{ind_type, ind_join}
 use Rattle.std.proofs.Common.{Some, pos, true, false, ◌≡◌, [], ◌∷◌, refl}
 use Rattle.mm_field.specs.declared.Field.TheVariants.{Two, Three, Four, Five}
 use Rattle.mm_field.specs.Digits.{plus, times, negative, inverse}
@@ -83,3 +83,24 @@ circuit =
 size_of_circuit : state_size Two (Decide (Ind (record { whole = true; slots = [] }))) circuit ≡ 8
 unfolding coordinates digit_below is_pivot is_in_span new_place echelon_of is_independent head_of_span subspace all_vectors reduced_basis plus times negative inverse
 size_of_circuit = refl
+
+-- the join rule for two spaces: a line and a line whose images are one line are Dead; lines with other images give the sum's part in G3
+
+abbrev parallel : Op
+parallel = record { t1 = 1; t2 = 1; t3 = 1; c = 0; g1 = (1 ∷ []) ∷ []; g2 = (1 ∷ []) ∷ []; g3 = (1 ∷ []) ∷ [] }
+
+same_line : ind_join Two parallel (Span 1 ((1 ∷ []) ∷ [])) (Span 1 ((1 ∷ []) ∷ [])) ≡ Dead
+unfolding is_in_span new_place echelon_of meets_in_zero plus times negative inverse
+same_line = refl
+
+line_and_zero : ind_join Two parallel (Span 1 ((1 ∷ []) ∷ [])) (Span 1 []) ≡ Span 1 ((1 ∷ []) ∷ [])
+unfolding is_in_span new_place echelon_of meets_in_zero preimage subspace all_vectors reduced_basis plus times negative inverse
+line_and_zero = refl
+
+sum_of_lines : ind_join Two op (Span 1 ((1 ∷ []) ∷ [])) (Span 1 ((1 ∷ []) ∷ [])) ≡ Span 1 ((1 ∷ []) ∷ [])
+unfolding is_in_span new_place echelon_of meets_in_zero preimage subspace all_vectors reduced_basis plus times negative inverse
+sum_of_lines = refl
+
+one_line : ind_join Two op (Span 1 ((1 ∷ []) ∷ [])) (Span 1 []) ≡ Span 1 []
+unfolding is_in_span new_place echelon_of meets_in_zero preimage subspace all_vectors reduced_basis plus times negative inverse
+one_line = refl

@@ -9,10 +9,10 @@ use Rattle.mm_field.specs.Digits.{plus, times}
 use Rattle.mm_field.specs.Vectors.{zeros, vector_sum, multiple, combination, times_matrix, IsVector, AreVectors}
 use Rattle.mm_field.proofs.Tables.{times_comm}
 use Rattle.mm_field.proofs.VectorLemmas.{step_entry}
-use Rattle.mm_field.proofs.CombinationLemmas.{IsVector-combination, combination-times_matrix, first_row, other_rows}
+use Rattle.mm_field.proofs.CombinationLemmas.{IsVector-combination, first_row, other_rows}
 use Rattle.mm_field.proofs.PartLemmas.{AreVectors-map}
 use Rattle.mm_linear.specs.Coordinates.{coordinates, in_coordinates, IsBasis, completed}
-use Rattle.mm_linear.proofs.CoordinateLemmas.{IsVector-coordinates, coordinates_of, coordinates_unique}
+use Rattle.mm_linear.proofs.CoordinateLemmas.{IsVector-coordinates, coordinates_times_matrix, front_digit}
 use Rattle.mm_linear.proofs.BasisLemmas.{completed_is_basis}
 use Rattle.mm_logic.specs.Operator.{Op, row_length, IsValidOp}
 use Rattle.mm_logic.specs.PresentMatrix.{internal, left_column, right_column, columns, column_of, row_of, first_rows, column_digits}
@@ -110,32 +110,6 @@ by_rows f r k w j (v ∷ m) cs hm hc lk lw =
     ∙ sym (sum_of_values f (get_or v k 0) (λ u. get_or u j 0) rest cs)
     ∙ ap (λ row. vector_sum f (multiple f (get_or v k 0) (row_of cs j)) row)
     (by_rows f r k w (j + 1) m cs (other_rows f r v m hm) hc lk (omega arith))
-
-back : (f : Field) (r : ℕ) (basis g : List (List ℕ)) → IsBasis f r basis → AreVectors f r g →
-    map (times_matrix f r basis) (map (coordinates f r basis) g) ≡ g
-back f r basis [] hb hg = refl
-back f r basis (x ∷ g) hb hg =
-    ap₂ (λ a b. a ∷ b) (coordinates_of f r basis hb x (first_row f r x g hg)) (back f r basis g hb (other_rows f r x g hg))
-
--- in a basis, the coordinates of b times g are b times the coordinates of the rows of g
-coordinates_times_matrix : (f : Field) (r : ℕ) (basis g : List (List ℕ)) (b : List ℕ) → IsBasis f r basis → AreVectors f r g →
-    coordinates f r basis (times_matrix f r g b) ≡ times_matrix f r (map (coordinates f r basis) g) b
-coordinates_times_matrix f r basis g b hb hg =
-    let into : List ℕ → List ℕ = coordinates f r basis in
-    let made : AreVectors f r (map into g) =
-    AreVectors-map f r r into (λ x hx. subst (λ n. IsVector f n (into x)) hb.count (IsVector-coordinates f r basis x)) g hg in
-    ap (λ (rows : List (List ℕ)). coordinates f r basis (combination f r b rows)) (sym (back f r basis g hb hg))
-    ∙ ap (coordinates f r basis) (combination-times_matrix f r r b (map into g) basis made hb.each)
-    ∙ coordinates_unique f r basis hb (combination f r b (map into g)) (IsVector-combination f r b (map into g) made)
-
--- digit k, among the first r, of a column whose first r digits are exchanged for their coordinates
-front_digit : (f : Field) (r k : ℕ) (basis : List (List ℕ)) (x y : List ℕ) → length basis ≡ r → length x ≡ r → k < r →
-    get_or (in_coordinates f r basis (x ++ y)) k 0 ≡ get_or (coordinates f r basis x) k 0
-front_digit f r k basis x y hb hx lk =
-    let cs : List ℕ = coordinates f r basis (take r (x ++ y)) in
-    let long : length cs ≡ r = (IsVector-coordinates f r basis (take r (x ++ y))).len ∙ hb in
-    get_or_append_left cs (drop r (x ++ y)) 0 k (subst (λ n. k < n) (sym long) lk)
-    ∙ ap (λ z. get_or (coordinates f r basis z) k 0) (take_at x y r hx)
 
 -- row k of a join at the elements of one child, whose columns are cs
 side_row : (f : Field) (r t m k : ℕ) (basis g cs : List (List ℕ)) (tail : List ℕ → List ℕ) →

@@ -1,16 +1,17 @@
 -- The first sets of a node are as many as its different types.
-use Rattle.std.proofs.Common.{◌≡◌, ◌≢◌, ℕ, suc, Bool, true, false, not, cond, ℤ, List, [], ◌∷◌, length, map, filter, sum_by, get_or, All, refl, sym, ap, ◌∙◌, subst, arith}
+use Rattle.std.proofs.Common.{◌≡◌, ◌≢◌, ℕ, suc, Bool, true, false, not, ℤ, List, [], ◌∷◌, length, map, filter, sum_by, get_or, refl, sym, ap, ◌∙◌, subst, arith}
 use Rattle.std.specs.Prelude.{IsTrue}
 use Rattle.std.specs.List.{list_any, AllPairs}
 use Rattle.std.specs.Ordering.{is_eq}
 use Rattle.std.specs.declared.cmp.Ordering.{Ordering}
 use Rattle.std.specs.declared.cmp.Ordering.TheVariants.{Less, Equal, Greater}
 use Rattle.std.proofs.lemmas.List.{length-map, get_or-map}
-use Rattle.std.proofs.lemmas.List.Elements.{All-contains, All-head, All-tail, Contains-get_or}
+use Rattle.std.proofs.lemmas.List.Elements.{All-contains, Contains-get_or}
 use Rattle.std.proofs.lemmas.List.Folds.{Any-from_list_any, list_any-from_Any}
 use Rattle.mm_linear.proofs.SubspaceTests.{same_test}
 use Rattle.mm_logic.proofs.BagLemmas.{bag-same, sum_by-cons}
 use Rattle.mm_logic.proofs.SetLemmas.{list_any-map}
+use Rattle.mm_logic.proofs.OccurrenceLemmas.{filter_kept}
 use Rattle.mm_logic.proofs.ValueLemmas.{value_exact}
 use Rattle.mm_logic.specs.Least.{IsFirst, AreFirsts}
 use Rattle.mm_logic.specs.Marks.{assign, unmarked, sets}
@@ -32,12 +33,6 @@ not_same v w ne = go (value_cmp v w) refl
     go Less e = ap is_eq e
     go Equal e = absurd (ne (value_exact v w e))
     go Greater e = ap is_eq e
-
-filter_kept : (p : Value → Bool) (vs : List Value) → All (λ v. p v ≡ true) vs → filter p vs ≡ vs
-filter_kept p [] h = refl
-filter_kept p (v ∷ vs) h =
-    ap (λ b. cond b (v ∷ filter p vs) (filter p vs)) (All-head (λ x. p x ≡ true) v vs h)
-    ∙ ap (λ z. v ∷ z) (filter_kept p vs (All-tail (λ x. p x ≡ true) v vs h))
 
 -- of values that differ pairwise each is kept
 distinct-different : (vs : List Value) → AllPairs (λ v w. v ≢ w) vs → distinct vs ≡ vs

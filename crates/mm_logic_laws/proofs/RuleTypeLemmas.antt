@@ -1,9 +1,11 @@
 -- The types of a query at every node are those that the rules give.
-use Rattle.std.proofs.Common.{◌≡◌, ℕ, Bool, true, false, List, [], ◌∷◌, ◌++◌, map, flat_map, length, All, refl, sym, ap, ap₂, ◌∙◌, append-nil}
+use Rattle.std.proofs.Common.{◌≡◌, ℕ, Bool, true, false, List, [], ◌∷◌, ◌++◌, map, flat_map, ◌+◌, sum_by, length, All, refl, sym, ap, ap₂, ◌∙◌, append-nil}
 use Rattle.std.proofs.lemmas.List.{map-append, length-replicate, replicate-append-replicate}
 use Rattle.std.proofs.lemmas.List.Elements.{All-head, All-tail}
 use Rattle.std.proofs.lemmas.List.Folds.{flat_map-map}
 use Rattle.std.proofs.lemmas.Grind.{flat_map-append}
+use Rattle.std.proofs.lemmas.List.Sums.{sum_by-append}
+use Rattle.mm_logic.specs.Occurrence.{distinct}
 use Rattle.std.proofs.lemmas.Simd.{map-map}
 use Rattle.mm_field.specs.declared.Field.{Field}
 use Rattle.mm_logic.specs.Formula.{Formula}
@@ -97,8 +99,18 @@ at_node f Q w (Join op l r) ok =
     ∙ ap₂ (λ vs ws. all_pairs (join_type f (asked Q) op) vs ws) (at_node f Q w l ok.3) (at_node f Q w r ok.4)
 
 pub given_by_rules : TypesAreGivenByRules
-given_by_rules f Q w T ok = (at_node f Q w T ok, at_nodes (subtrees T) (subtrees_valid f T ok))
+given_by_rules f Q w T ok = (at_node f Q w T ok, at_nodes (subtrees T) (subtrees_valid f T ok), rows_at (subtrees T) (subtrees_valid f T ok))
   where
     at_nodes : (Ts : List Tree) → All (IsValid f) Ts → flat_map (types_at f Q) Ts ≡ flat_map (types_by_rules f Q) Ts
     at_nodes [] h = refl
     at_nodes (N ∷ Ts) h = ap₂ (λ x y. x ++ y) (at_node f Q w N (All-head (IsValid f) N Ts h)) (at_nodes Ts (All-tail (IsValid f) N Ts h))
+
+    rows_at : (Ts : List Tree) → All (IsValid f) Ts
+        → sum_by (λ N. length (distinct (types_at f Q N))) Ts ≡ sum_by (λ N. length (distinct (types_by_rules f Q N))) Ts
+    rows_at [] h = refl
+    rows_at (N ∷ Ts) h =
+        sum_by-append (λ N. length (distinct (types_at f Q N))) (N ∷ []) Ts
+        ∙ ap₂ (λ x y. x + y)
+        (ap (λ vs. sum_by (λ (M : Tree). length (distinct vs)) (N ∷ [])) (at_node f Q w N (All-head (IsValid f) N Ts h)))
+        (rows_at Ts (All-tail (IsValid f) N Ts h))
+        ∙ sym (sum_by-append (λ N. length (distinct (types_by_rules f Q N))) (N ∷ []) Ts)

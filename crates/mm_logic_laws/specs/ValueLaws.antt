@@ -1,5 +1,5 @@
 -- The laws of values: which values the rules give, and that they give the types at every node.
-use Rattle.std.specs.Prelude.{◌≡◌, ℕ, true, false, List, [], ◌∷◌, length, map, flat_map}
+use Rattle.std.specs.Prelude.{◌≡◌, ℕ, true, false, List, [], ◌∷◌, length, map, flat_map, sum_by}
 use Rattle.mm_field.specs.declared.Field.{Field}
 use Rattle.mm_logic.specs.Formula.{Formula}
 use Rattle.mm_logic.specs.Value.{Value}
@@ -12,7 +12,8 @@ use Rattle.mm_logic.specs.Types.{type_of}
 use Rattle.mm_logic.specs.LeafRule.{elem_type, void_type}
 use Rattle.mm_logic.specs.JoinRule.{join_type, all_pairs}
 use Rattle.mm_logic.specs.PossibleValues.{IsValueOf}
-use Rattle.mm_logic.specs.StateSize.{Query, asked, types_at, types}
+use Rattle.mm_logic.specs.StateSize.{Query, asked, types_at, types, rows}
+use Rattle.mm_logic.specs.Occurrence.{distinct}
 use Rattle.mm_logic.specs.StateSize.Query.{Decide, Least}
 
 -- The leaf rule gives values whose spaces are of the leaf's boundary, and the join rule makes of such values of the children one
@@ -41,8 +42,10 @@ types_by_rules f Q (Elem vec) = map (elem_type f (asked Q) vec) (asked_marks Q)
 types_by_rules f Q (Void t) = void_type f (asked Q) t ∷ []
 types_by_rules f Q (Join op l r) = all_pairs (join_type f (asked Q) op) (types_by_rules f Q l) (types_by_rules f Q r)
 
--- At every node of a valid tree the types that a query asks for are those that the rules give.
+-- At every node of a valid tree the types that a query asks for are those that the rules give; so are the rows.
 abbrev pub TypesAreGivenByRules : Type 0
 TypesAreGivenByRules =
     (f : Field) (Q : Query) → WellSorted (λ k. false) (asked Q) → (T : Tree) → IsValid f T
-    → (types_at f Q T ≡ types_by_rules f Q T) × (types f Q T ≡ flat_map (types_by_rules f Q) (subtrees T))
+    → (types_at f Q T ≡ types_by_rules f Q T)
+    × (types f Q T ≡ flat_map (types_by_rules f Q) (subtrees T))
+    × (rows f Q T ≡ sum_by (λ N. length (distinct (types_by_rules f Q N))) (subtrees T))
