@@ -11,3 +11,5 @@ mod formula;
 mod formula_text;
 #[cfg(test)]
 mod lines;
+#[cfg(test)]
+mod states;
