@@ -1,5 +1,6 @@
 -- One entry of a kernel: b + c*a, as each field's loop computes it.
-use Rattle.std.proofs.Common.{ℕ, ◌+◌, ◌*◌, ◌/◌, ◌%◌, ◌<◌, ◌≡◌, Bool, eqb, eqb-true, bit_xor, bit_and, refl}
+use Rattle.std.proofs.Common.{ℕ, ◌+◌, ◌*◌, ◌/◌, ◌%◌, ◌<◌, ◌≡◌, Bool, eqb, eqb-true, bit_xor, bit_and, refl, sym, ap, ◌∙◌}
+use Rattle.std.proofs.Math.Nat.{add-mod-mod}
 use Rattle.mm_field.specs.declared.Field.{Field}
 use Rattle.mm_field.specs.declared.Field.TheVariants.{Two, Three, Four, Five}
 use Rattle.mm_field.specs.Digits.{order, digit_sum, digit_product, plus, times}
@@ -41,3 +42,7 @@ five_test c a b = eqb ((b + c * a) % 5) (step Five c a b)
 pub five_step : (c a b : ℕ) → c < 5 → a < 5 → b < 5 → (b + c * a) % 5 ≡ plus Five b (times Five c a)
 unfolding plus times
 five_step c a b lc la lb = eqb-true _ _ (passes_at3 5 five_test refl c a b lc la lb)
+
+-- in a sum, a number may stand for another with the same remainder
+pub same_rest : (q b m n : ℕ) → m % q ≡ n % q → (b + m) % q ≡ (b + n) % q
+same_rest q b m n e = sym (add-mod-mod b m q) ∙ ap (λ k. (b + k) % q) e ∙ add-mod-mod b n q
