@@ -90,6 +90,7 @@ fn add_three(c: Elt, x: &[u8], y: &mut [u8])
 fn add_four(c: Elt, x: &[u8], y: &mut [u8])
     requires same_length { length x.now ≡ length y.old }
     requires factor { c < 4 }
+    requires nonzero { c ≢ 0 }
     requires digits_x { AreDigits Field.Four x.now }
     requires digits_y { AreDigits Field.Four y.old }
     ensures { y.new ≡ vector_sum Field.Four y.old (multiple Field.Four c x.now) }
@@ -144,7 +145,10 @@ fn times_three(c: Elt, a: Elt) -> Elt
     ensures small { result ≤ 3 }
     ensures product { result % 3 ≡ c * a % 3 }
 {
-    if c == 2 { 3 - a } else { a }
+    match c {
+        1 => a,
+        _ => 3 - a,
+    }
 }
 
 // s modulo 3.
@@ -156,16 +160,42 @@ fn less_three(s: Elt) -> Elt
     if s >= 3 { s - 3 } else { s }
 }
 
-// b + c*a over GF(4): a where c has bit 0, and 2*a where it has bit 1. In 2*a the high bit of a, times 2, becomes 3.
+// b + c*a over GF(4), where c is not 0.
 #[inline(always)]
 fn sum_four(c: Elt, a: Elt, b: Elt) -> Elt
     requires factor { c < 4 }
+    requires nonzero { c ≢ 0 }
     requires left { a < 4 }
     requires right { b < 4 }
     ensures { result ≡ plus Field.Four b (times Field.Four c a) }
 {
-    let twice = ((a << 1) & 3) ^ (3 * (a >> 1));
-    b ^ (a & (3 * (c & 1))) ^ (twice & (3 * (c >> 1)))
+    b ^ times_four(c, a)
+}
+
+// c*a over GF(4), where c is not 0.
+#[inline(always)]
+fn times_four(c: Elt, a: Elt) -> Elt
+    requires factor { c < 4 }
+    requires nonzero { c ≢ 0 }
+    requires digit { a < 4 }
+    ensures small { result < 4 }
+    ensures product { result ≡ times Field.Four c a }
+{
+    let twice = twice_four(a);
+    if c == 2 {
+        return twice;
+    }
+    if c == 3 { a ^ twice } else { a }
+}
+
+// 2*a over GF(4): the high bit of a, times 2, becomes 3.
+#[inline(always)]
+fn twice_four(a: Elt) -> Elt
+    requires { a < 4 }
+    ensures small { result < 4 }
+    ensures product { result ≡ times Field.Four 2 a }
+{
+    if a >= 2 { (a + a) ^ 7 } else { a + a }
 }
 
 // b + c*a over GF(5), where c is not 0.
