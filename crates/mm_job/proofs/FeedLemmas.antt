@@ -71,7 +71,7 @@ pub nothing_written : (held : Option (List ℕ)) (bs : List ℕ) → GrowsByFron
 nothing_written held bs = (0, Appends-nil held)
 
 pub fed_nothing : (limit : ℕ) (state : JobState) (lines : List Line) (held : Option (List ℕ)) → Fed limit state state lines lines held held
-fed_nothing limit state lines held = record { output_line = []; grew = Appends-nil held; same = λ e rs. refl; comes = refl }
+fed_nothing limit state lines held = record { outputs = []; grew = Appends-nil held; same = λ e rs. refl; comes = refl }
 
 printed_on : (held held_new : Option (List ℕ)) (xs ys : List OutputLine) → Appends held held_new (printed_all xs ++ printed_all ys) → Appends held held_new (printed_all (xs ++ ys))
 printed_on held held_new xs ys h = subst (λ (l : List ℕ). Appends held held_new l) (sym (flat_map-append printed xs ys)) h
@@ -81,18 +81,18 @@ pub fed_trans : (limit : ℕ) (a b c : JobState) (lines lines_now lines_after : 
     → Fed limit a b lines lines_now held held_now → Fed limit b c lines_now lines_after held_now held_after → Fed limit a c lines lines_after held held_after
 fed_trans limit a b c lines lines_now lines_after held held_now held_after p q =
     record {
-      output_line = p.output_line ++ q.output_line;
-      grew = printed_on held held_after p.output_line q.output_line (Appends-trans held held_now held_after (printed_all p.output_line) (printed_all q.output_line) p.grew q.grew);
-      same = λ e rs. p.same e rs ∙ ap (λ (l : List OutputLine). p.output_line ++ l) (q.same e rs) ∙ sym (append_assoc p.output_line q.output_line (lines_from_stage limit c.stage e (lines_after ++ rs)));
-      comes = q.comes ∙ ap (λ (s : Option Status). come_to s q.output_line) p.comes ∙ sym (come_on a.status p.output_line q.output_line);
+      outputs = p.outputs ++ q.outputs;
+      grew = printed_on held held_after p.outputs q.outputs (Appends-trans held held_now held_after (printed_all p.outputs) (printed_all q.outputs) p.grew q.grew);
+      same = λ e rs. p.same e rs ∙ ap (λ (l : List OutputLine). p.outputs ++ l) (q.same e rs) ∙ sym (append_assoc p.outputs q.outputs (lines_from_stage limit c.stage e (lines_after ++ rs)));
+      comes = q.comes ∙ ap (λ (s : Option Status). come_to s q.outputs) p.comes ∙ sym (come_on a.status p.outputs q.outputs);
     }
 
 -- what is told of the lines is what is said of the first of them and what is told after it
 written_on : (limit : ℕ) (old new : JobState) (lines lines_now : List Line) (held held_now : Option (List ℕ)) → (fed : Fed limit old new lines lines_now held held_now)
-    → (e : Ending) → printed_all (lines_from_stage limit old.stage e lines) ≡ printed_all fed.output_line ++ printed_all (lines_from_stage limit new.stage e lines_now)
+    → (e : Ending) → printed_all (lines_from_stage limit old.stage e lines) ≡ printed_all fed.outputs ++ printed_all (lines_from_stage limit new.stage e lines_now)
 written_on limit old new lines lines_now held held_now fed e =
     ap (λ (l : List Line). printed_all (lines_from_stage limit old.stage e l)) (sym (append-nil lines)) ∙ ap printed_all (fed.same e [])
-    ∙ ap (λ (l : List Line). printed_all (fed.output_line ++ lines_from_stage limit new.stage e l)) (append-nil lines_now) ∙ flat_map-append printed fed.output_line (lines_from_stage limit new.stage e lines_now)
+    ∙ ap (λ (l : List Line). printed_all (fed.outputs ++ lines_from_stage limit new.stage e l)) (append-nil lines_now) ∙ flat_map-append printed fed.outputs (lines_from_stage limit new.stage e lines_now)
 
 -- what was written before, and a front of what is told then
 pub front_then : (limit : ℕ) (old new : JobState) (lines lines_now : List Line) (held held_now held_after : Option (List ℕ)) → Fed limit old new lines lines_now held held_now
@@ -100,7 +100,7 @@ pub front_then : (limit : ℕ) (old new : JobState) (lines lines_now : List Line
     → (e : Ending) → GrowsByFront held held_after (printed_all (lines_from_stage limit old.stage e lines))
 front_then limit old new lines lines_now held held_now held_after fed grew e =
     subst (λ (l : List ℕ). GrowsByFront held held_after l) (sym (written_on limit old new lines lines_now held held_now fed e))
-    (front_after held held_now held_after (printed_all fed.output_line) (printed_all (lines_from_stage limit new.stage e lines_now)) fed.grew (grew e))
+    (front_after held held_now held_after (printed_all fed.outputs) (printed_all (lines_from_stage limit new.stage e lines_now)) fed.grew (grew e))
 
 -- a front of what is said of a line was written
 pub front_line : (limit : ℕ) (old new : JobState) (r : Line) (output_line : List OutputLine) (held held_new : Option (List ℕ))

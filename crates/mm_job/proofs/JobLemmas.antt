@@ -23,7 +23,7 @@ use Rattle.mm_job.specs.Edits.{block, single}
 use Rattle.mm_job.specs.Stages.{lines_from_stage}
 use Rattle.mm_job.specs.Standing.{IsRead, Stands, written_at}
 use Rattle.mm_job.specs.declared.state.JobState.{JobState}
-use Rattle.mm_job.specs.declared.header.HeaderState.TheVariants as heads
+use Rattle.mm_header.specs.declared.state.HeaderState.TheVariants as heads
 use Rattle.mm_job.specs.declared.progress.Progress.{Progress}
 use Rattle.mm_job.specs.declared.progress.Progress.TheVariants as progresses
 use Rattle.mm_job.specs.declared.output_line.OutputLine.{OutputLine}
@@ -43,20 +43,20 @@ first_lines : lines_of false [] ≡ []
 unfolding lines_of
 first_lines = refl
 
-first_of_all : (limit : ℕ) (e : Ending) (rs : List Line) → written_lines limit e rs ≡ lines_from_stage limit (stages.HeaderState heads.Format) e rs
+first_of_all : (limit : ℕ) (e : Ending) (rs : List Line) → written_lines limit e rs ≡ lines_from_stage limit (stages.Header heads.Format) e rs
 unfolding written_lines header header_lines
 first_of_all limit e rs = refl
 
 quiet_first : (limit : ℕ) → written_lines limit More (settled []) ≡ []
-quiet_first limit = ap (written_lines limit More) no_lines ∙ first_of_all limit More [] ∙ quiet limit (stages.HeaderState heads.Format)
+quiet_first limit = ap (written_lines limit More) no_lines ∙ first_of_all limit More [] ∙ quiet limit (stages.Header heads.Format)
 
-pub stands_first : (limit : ℕ) (state : JobState) → state ≡ record { stage = stages.HeaderState heads.Format; status = None } → Stands limit [] state
+pub stands_first : (limit : ℕ) (state : JobState) → state ≡ record { stage = stages.Header heads.Format; status = None } → Stands limit [] state
 stands_first limit state is =
     subst (λ (c : JobState). Stands limit [] c) (sym is)
     (record {
       kept = tt;
       rest = λ e rs. ap (λ (l : List Line). written_lines limit e (l ++ rs)) no_lines ∙ first_of_all limit e rs
-          ∙ ap (λ (l : List OutputLine). l ++ lines_from_stage limit (stages.HeaderState heads.Format) e rs) (sym (quiet_first limit));
+          ∙ ap (λ (l : List OutputLine). l ++ lines_from_stage limit (stages.Header heads.Format) e rs) (sym (quiet_first limit));
       comes = ap (come_to None) (sym (quiet_first limit));
     })
 
@@ -155,7 +155,7 @@ long_progress limit text piece size long =
 pub live_of : (i : Inside) (s : JobValue) → state_of i ≡ s → s.live ≡ true → IsJob i → IsLive i
 live_of i s view live kept = kept (ap (λ (v : JobValue). v.live) view ∙ live)
 
-pub first_live : (i : Inside) → i.taken ≡ 0 → i.framer ≡ record { bytes = []; ended = false; handed = 0 } → i.state ≡ record { stage = stages.HeaderState heads.Format; status = None } → IsLive i
+pub first_live : (i : Inside) → i.taken ≡ 0 → i.framer ≡ record { bytes = []; ended = false; handed = 0 } → i.state ≡ record { stage = stages.Header heads.Format; status = None } → IsLive i
 first_live i none framer state =
     let empty : i.framer.bytes ≡ [] = ap (λ (s : Stream). s.bytes) framer in
     record {

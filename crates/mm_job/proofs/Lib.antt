@@ -1,12 +1,9 @@
 pub mod HeaderLemmas
 pub mod ItemLemmas
 pub mod GrowthLemmas
-pub mod FormulaLemmas
 pub mod BlockLemmas
 pub mod TruthLemmas
 pub mod FeedLemmas
-pub mod BuildLemmas
-pub mod KeptLemmas
 pub mod EndLemmas
 pub mod StandingLemmas
 pub mod JobLemmas

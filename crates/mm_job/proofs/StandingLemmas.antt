@@ -82,24 +82,24 @@ all_read s going within none =
 -- what is said of all lines of a longer text, by what was fed
 output_line_on : (limit : ℕ) (text : List ℕ) (a b : JobState) (all new lines_new : List Line) (held held_new : Option (List ℕ)) → Stands limit text a → (fed : Fed limit a b new lines_new held held_new)
     → lines_new ≡ [] → all ≡ settled text ++ new
-    → (e : Ending) (rs : List Line) → written_lines limit e (all ++ rs) ≡ (written_lines limit More (settled text) ++ fed.output_line) ++ lines_from_stage limit b.stage e rs
+    → (e : Ending) (rs : List Line) → written_lines limit e (all ++ rs) ≡ (written_lines limit More (settled text) ++ fed.outputs) ++ lines_from_stage limit b.stage e rs
 output_line_on limit text a b all new lines_new held held_new stands fed none is e rs =
     let T = written_lines limit More (settled text) in
     ap (λ (l : List Line). written_lines limit e (l ++ rs)) is
     ∙ ap (written_lines limit e) (append_assoc (settled text) new rs)
     ∙ stands.rest e (new ++ rs)
-    ∙ ap (λ (l : List OutputLine). T ++ l) (fed.same e rs ∙ ap (λ (l : List Line). fed.output_line ++ lines_from_stage limit b.stage e (l ++ rs)) none)
-    ∙ sym (append_assoc T fed.output_line (lines_from_stage limit b.stage e rs))
+    ∙ ap (λ (l : List OutputLine). T ++ l) (fed.same e rs ∙ ap (λ (l : List Line). fed.outputs ++ lines_from_stage limit b.stage e (l ++ rs)) none)
+    ∙ sym (append_assoc T fed.outputs (lines_from_stage limit b.stage e rs))
 
 output_line_now : (limit : ℕ) (text : List ℕ) (a b : JobState) (all new lines_new : List Line) (held held_new : Option (List ℕ)) → Stands limit text a → (fed : Fed limit a b new lines_new held held_new)
-    → lines_new ≡ [] → all ≡ settled text ++ new → (e : Ending) → written_lines limit e all ≡ (written_lines limit More (settled text) ++ fed.output_line) ++ lines_from_stage limit b.stage e []
+    → lines_new ≡ [] → all ≡ settled text ++ new → (e : Ending) → written_lines limit e all ≡ (written_lines limit More (settled text) ++ fed.outputs) ++ lines_from_stage limit b.stage e []
 output_line_now limit text a b all new lines_new held held_new stands fed none is e =
     ap (written_lines limit e) (sym (append-nil all)) ∙ output_line_on limit text a b all new lines_new held held_new stands fed none is e []
 
 output_line_quiet : (limit : ℕ) (text : List ℕ) (a b : JobState) (all new lines_new : List Line) (held held_new : Option (List ℕ)) → Stands limit text a → (fed : Fed limit a b new lines_new held held_new)
-    → lines_new ≡ [] → all ≡ settled text ++ new → written_lines limit More all ≡ written_lines limit More (settled text) ++ fed.output_line
+    → lines_new ≡ [] → all ≡ settled text ++ new → written_lines limit More all ≡ written_lines limit More (settled text) ++ fed.outputs
 output_line_quiet limit text a b all new lines_new held held_new stands fed none is =
-    let X = written_lines limit More (settled text) ++ fed.output_line in
+    let X = written_lines limit More (settled text) ++ fed.outputs in
     output_line_now limit text a b all new lines_new held held_new stands fed none is More ∙ ap (λ (l : List OutputLine). X ++ l) (quiet limit b.stage) ∙ append-nil X
 
 pub stands_next : (limit : ℕ) (text whole : List ℕ) (a b : JobState) (new lines_new : List Line) (held held_new : Option (List ℕ)) → Stands limit text a → Fed limit a b new lines_new held held_new
@@ -111,16 +111,16 @@ stands_next limit text whole a b new lines_new held held_new stands fed none is 
       kept = kept;
       rest = λ e rs. output_line_on limit text a b (settled whole) new lines_new held held_new stands fed none is e rs
           ∙ ap (λ (l : List OutputLine). l ++ lines_from_stage limit b.stage e rs) (sym now);
-      comes = fed.comes ∙ ap (λ (s : Option Status). come_to s fed.output_line) stands.comes ∙ sym (come_on None T fed.output_line) ∙ ap (come_to None) (sym now);
+      comes = fed.comes ∙ ap (λ (s : Option Status). come_to s fed.outputs) stands.comes ∙ sym (come_on None T fed.outputs) ∙ ap (come_to None) (sym now);
     }
 
 grew_next : (limit : ℕ) (text whole : List ℕ) (a b : JobState) (new lines_new : List Line) (held held_new : Option (List ℕ)) → Stands limit text a → Fed limit a b new lines_new held held_new
     → lines_new ≡ [] → settled whole ≡ settled text ++ new → Grew held held_new (written_at More limit text) (written_at More limit whole)
 grew_next limit text whole a b new lines_new held held_new stands fed none is =
     record {
-      wrote = printed_all fed.output_line;
+      wrote = printed_all fed.outputs;
       grew = fed.grew;
-      whole = sym (flat_map-append printed (written_lines limit More (settled text)) fed.output_line) ∙ ap printed_all (sym (output_line_quiet limit text a b (settled whole) new lines_new held held_new stands fed none is));
+      whole = sym (flat_map-append printed (written_lines limit More (settled text)) fed.outputs) ∙ ap printed_all (sym (output_line_quiet limit text a b (settled whole) new lines_new held held_new stands fed none is));
     }
 
 front_next : (limit : ℕ) (text : List ℕ) (a : JobState) (all new : List Line) (held held_new : Option (List ℕ)) (e : Ending) → Stands limit text a → all ≡ settled text ++ new
@@ -148,21 +148,21 @@ pub piece_within : (old mid : Stream) (piece : List ℕ) → IsRead old → mid 
 piece_within old mid piece read is =
     subst IsWithin (sym (is ∙ ap (λ (c : Bool). record old { bytes = old.bytes ++ piece; ended = c }) read.open_ended)) (more_within old false piece read)
 
-pub piece_stands : {E : Type 0} (limit : ℕ) (old mid new : Stream) (piece : List ℕ) (a : JobState) (r : Result JobState E) (held held_new : Option (List ℕ))
+pub piece_stands : {E : Type 0} (limit : ℕ) (old mid new : Stream) (piece : List ℕ) (a c : JobState) (r : Result (Unit {0}) E) (held held_new : Option (List ℕ))
     → Stands limit old.bytes a → IsRead old → length old.bytes + length piece ≤ most_bytes → mid ≡ record old { bytes = old.bytes ++ piece }
-    → IfOk r (λ c. Fed limit a c (left mid) (left new) held held_new) → OnOk r (left new ≡ []) → IfOk r (λ c. IsKeptAt c.stage)
-    → IfOk r (λ c. Stands limit (old.bytes ++ piece) c)
-piece_stands limit old mid new piece a (Ok c) held held_new stands read size is fed none kept =
+    → OnOk r (Fed limit a c (left mid) (left new) held held_new) → OnOk r (left new ≡ []) → IfOk r (λ u. IsKeptAt c.stage)
+    → OnOk r (Stands limit (old.bytes ++ piece) c)
+piece_stands limit old mid new piece a c (Ok u) held held_new stands read size is fed none kept =
     stands_next limit old.bytes (old.bytes ++ piece) a c (left mid) (left new) held held_new stands fed none (piece_lines old mid piece read size is) kept
-piece_stands limit old mid new piece a (Err e) held held_new stands read size is fed none kept = tt
+piece_stands limit old mid new piece a c (Err e) held held_new stands read size is fed none kept = tt
 
-pub piece_grew : {E : Type 0} (limit : ℕ) (old mid new : Stream) (piece : List ℕ) (a : JobState) (r : Result JobState E) (held held_new : Option (List ℕ))
+pub piece_grew : {E : Type 0} (limit : ℕ) (old mid new : Stream) (piece : List ℕ) (a c : JobState) (r : Result (Unit {0}) E) (held held_new : Option (List ℕ))
     → Stands limit old.bytes a → IsRead old → length old.bytes + length piece ≤ most_bytes → mid ≡ record old { bytes = old.bytes ++ piece }
-    → IfOk r (λ c. Fed limit a c (left mid) (left new) held held_new) → OnOk r (left new ≡ [])
+    → OnOk r (Fed limit a c (left mid) (left new) held held_new) → OnOk r (left new ≡ [])
     → OnOk r (Grew held held_new (written_at More limit old.bytes) (written_at More limit (old.bytes ++ piece)))
-piece_grew limit old mid new piece a (Ok c) held held_new stands read size is fed none =
+piece_grew limit old mid new piece a c (Ok u) held held_new stands read size is fed none =
     grew_next limit old.bytes (old.bytes ++ piece) a c (left mid) (left new) held held_new stands fed none (piece_lines old mid piece read size is)
-piece_grew limit old mid new piece a (Err e) held held_new stands read size is fed none = tt
+piece_grew limit old mid new piece a c (Err e) held held_new stands read size is fed none = tt
 
 pub piece_read : {X E : Type 0} (old mid new : Stream) (piece : List ℕ) (r : Result X E) → IsRead old → mid ≡ record old { bytes = old.bytes ++ piece }
     → new.ended ≡ mid.ended → IsWithin new → OnOk r (left new ≡ []) → OnOk r (IsRead new)
@@ -294,23 +294,23 @@ text_within old mid read is =
 
 text_output_line : (limit : ℕ) (old mid new : Stream) (a b : JobState) (held held_now : Option (List ℕ)) → Stands limit old.bytes a → IsRead old → length old.bytes ≤ most_bytes
     → mid ≡ record old { ended = true } → (fed : Fed limit a b (left mid) (left new) held held_now) → left new ≡ []
-    → output_lines old.bytes limit ≡ (written_lines limit More (settled old.bytes) ++ fed.output_line) ++ lines_from_stage limit b.stage Ended []
+    → output_lines old.bytes limit ≡ (written_lines limit More (settled old.bytes) ++ fed.outputs) ++ lines_from_stage limit b.stage Ended []
 text_output_line limit old mid new a b held held_now stands read size is fed none =
     output_at limit old.bytes size
     ∙ output_line_now limit old.bytes a b (lines_of true old.bytes) (left mid) (left new) held held_now stands fed none (text_lines old mid read size is) Ended
 
 text_grew : (limit : ℕ) (text : List ℕ) (a b : JobState) (new lines_new : List Line) (held held_now : Option (List ℕ)) → (fed : Fed limit a b new lines_new held held_now)
-    → Grew held held_now (written_at More limit text) (printed_all (written_lines limit More (settled text) ++ fed.output_line))
+    → Grew held held_now (written_at More limit text) (printed_all (written_lines limit More (settled text) ++ fed.outputs))
 text_grew limit text a b new lines_new held held_now fed =
-    record { wrote = printed_all fed.output_line; grew = fed.grew; whole = sym (flat_map-append printed (written_lines limit More (settled text)) fed.output_line) }
+    record { wrote = printed_all fed.outputs; grew = fed.grew; whole = sym (flat_map-append printed (written_lines limit More (settled text)) fed.outputs) }
 
 pub text_status : {E : Type 0} (limit : ℕ) (old mid new : Stream) (a b : JobState) (r : Result Status E) (held held_now : Option (List ℕ)) → Stands limit old.bytes a → IsRead old
     → length old.bytes ≤ most_bytes → mid ≡ record old { ended = true } → Fed limit a b (left mid) (left new) held held_now → left new ≡ []
     → IfOk r (λ s. (limit : ℕ) → s ≡ status_at (come_to b.status (lines_from_stage limit b.stage Ended []))) → IfOk r (λ s. s ≡ end_of old.bytes limit)
 text_status limit old mid new a b (Ok s) held held_now stands read size is fed none h =
     let T = written_lines limit More (settled old.bytes) in
-    end_status limit (T ++ fed.output_line) (output_lines old.bytes limit) b Ended s
-    (fed.comes ∙ ap (λ (o : Option Status). come_to o fed.output_line) stands.comes ∙ sym (come_on None T fed.output_line))
+    end_status limit (T ++ fed.outputs) (output_lines old.bytes limit) b Ended s
+    (fed.comes ∙ ap (λ (o : Option Status). come_to o fed.outputs) stands.comes ∙ sym (come_on None T fed.outputs))
     (text_output_line limit old mid new a b held held_now stands read size is fed none) (h limit)
 text_status limit old mid new a b (Err e) held held_now stands read size is fed none h = tt
 
@@ -318,7 +318,7 @@ pub text_wrote : {E : Type 0} (limit : ℕ) (old mid new : Stream) (a b : JobSta
     → length old.bytes ≤ most_bytes → mid ≡ record old { ended = true } → Fed limit a b (left mid) (left new) held held_now → left new ≡ []
     → OnOk r ((limit : ℕ) → Appends held_now held_new (printed_all (lines_from_stage limit b.stage Ended []))) → OnOk r (Grew held held_new (written_at More limit old.bytes) (output old.bytes limit))
 text_wrote limit old mid new a b (Ok s) held held_now held_new stands read size is fed none end =
-    end_grew held held_now held_new (written_at More limit old.bytes) (written_lines limit More (settled old.bytes) ++ fed.output_line) (lines_from_stage limit b.stage Ended []) (output_lines old.bytes limit)
+    end_grew held held_now held_new (written_at More limit old.bytes) (written_lines limit More (settled old.bytes) ++ fed.outputs) (lines_from_stage limit b.stage Ended []) (output_lines old.bytes limit)
     (text_grew limit old.bytes a b (left mid) (left new) held held_now fed) (text_output_line limit old mid new a b held held_now stands read size is fed none) (end limit)
 text_wrote limit old mid new a b (Err e) held held_now held_new stands read size is fed none end = tt
 
@@ -327,7 +327,7 @@ pub text_front : {E : Type 0} (limit : ℕ) (old mid new : Stream) (a b : JobSta
     → OnErr r ((limit : ℕ) → GrowsByFront held_now held_new (printed_all (lines_from_stage limit b.stage Ended []))) → OnErr r (GrewByFront held held_new (written_at More limit old.bytes) (output old.bytes limit))
 text_front limit old mid new a b (Ok s) held held_now held_new stands read size is fed none end = tt
 text_front limit old mid new a b (Err e) held held_now held_new stands read size is fed none end =
-    end_front held held_now held_new (written_at More limit old.bytes) (written_lines limit More (settled old.bytes) ++ fed.output_line) (lines_from_stage limit b.stage Ended []) (output_lines old.bytes limit)
+    end_front held held_now held_new (written_at More limit old.bytes) (written_lines limit More (settled old.bytes) ++ fed.outputs) (lines_from_stage limit b.stage Ended []) (output_lines old.bytes limit)
     (text_grew limit old.bytes a b (left mid) (left new) held held_now fed) (text_output_line limit old mid new a b held held_now stands read size is fed none) (end limit)
 
 -- a front of the lines after the piece before was written

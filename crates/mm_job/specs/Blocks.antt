@@ -8,7 +8,7 @@ use Rattle.mm_job.specs.Header.{Session}
 use Rattle.mm_job.specs.Items.{Rest, items, rest_of_block}
 use Rattle.mm_present.specs.Comparing.{Named, compared}
 use Rattle.mm_job.specs.Output.{Ending, after_reply, cut_short, reply_line, lines_of_items}
-use Rattle.mm_job.specs.HeaderStates.{IsMatrix}
+use Rattle.mm_header.specs.State.HeaderStates.{IsMatrix}
 use Rattle.mm_job.specs.declared.block.Block.{Block}
 use Rattle.mm_job.specs.declared.block.Block.TheVariants as begun
 use Rattle.mm_job.specs.declared.output_line.OutputLine.{OutputLine}

@@ -3,6 +3,7 @@ use Rattle.std.specs.Prelude.{ℕ, ◌+◌, ◌-◌, ℤ, nat_abs, Bool, true, f
 use Rattle.std.specs.declared.result.Result.{Result}
 use Rattle.mm_base.specs.Names.{is_name}
 use Rattle.mm_field.specs.declared.Field.{Field}
+use Rattle.mm_header.specs.Rules.{job_rules}
 use Rattle.mm_job.specs.Header.{Session}
 use Rattle.mm_present.specs.Comparing.{Named, compared}
 use Rattle.mm_present.specs.declared.verdict.Verdict.{Verdict}
@@ -31,8 +32,8 @@ pub record Applied : Type 0 where
 -- ---- `weight NAME WEIGHT`
 
 -- The name and the weight that the line gives.
-unfoldable pub weight_words : Line → Result (List ℕ × ℤ) Refusal
-weight_words r = do
+unfoldable pub weight_fields : Line → Result (List ℕ × ℤ) Refusal
+weight_fields r = do
   t ← found (two_of (args r)) (refusal.Syntax r.number)
   require (is_name t.0) (refusal.Syntax r.number)
   weight ← found (i64_of t.1) (refusal.Syntax r.number)
@@ -48,7 +49,7 @@ weight_change tree n name weight = do
 
 unfoldable pub weight_edit : Session → Line → Result Applied Refusal
 weight_edit s r = do
-  w ← weight_words r
+  w ← weight_fields r
   not_built (weight_change s.tree r.number w.0 w.1)
 
 -- ---- `replace NAME UP`, and the lines of its block
@@ -64,8 +65,8 @@ none_taken None = Ok tt
 none_taken (Some name) = Err (refusal.Taken name)
 
 -- The name and the number that the line gives.
-unfoldable pub replace_words : Line → Result (List ℕ × ℕ) Refusal
-replace_words r = do
+unfoldable pub replace_fields : Line → Result (List ℕ × ℕ) Refusal
+replace_fields r = do
   t ← found (two_of (args r)) (refusal.Syntax r.number)
   require (is_name t.0) (refusal.Syntax r.number)
   up ← found (u32_of t.1) (refusal.Syntax r.number)
@@ -91,12 +92,12 @@ exchanged tree path new n = do
 unfoldable pub replacement : Session → List ℕ → ℕ → List Line → Result Applied Refusal
 replacement s name up rs = do
   path ← path_above s.tree name up
-  new ← read_whole (tree_lines s.f s.ops [] rs)
+  new ← read_whole (tree_lines job_rules.leaves s.f s.ops [] rs)
   exchanged s.tree path new.0 new.1
 
 unfoldable pub replace_edit : Session → Line → List Line → Result Applied Refusal
 replace_edit s r rs = do
-  w ← replace_words r
+  w ← replace_fields r
   not_built (replacement s w.0 w.1 rs)
 
 -- ---- `check`, and the lines of its block
@@ -112,20 +113,20 @@ check_rows f names rows = each (begins (codes "row")) (row_line f (length names)
 
 -- The `elements` and `row` lines of a check after these names, and its `end`.
 unfoldable pub check_names : Field → List (List ℕ) → List Line → Reading Named
-check_names f names = each (begins (codes "elements")) elements_line names >>>= λ names. check_rows f names []
+check_names f names = each (begins (codes "elements")) (elements_line job_rules.names) names >>>= λ names. check_rows f names []
 
 abbrev pub is_same : Verdict → Bool
 is_same verdict.Same = true
 is_same v = false
 
 -- The first line of a check has no arguments.
-unfoldable pub check_words : Line → Result (Unit {0}) Refusal
-check_words r = require (length (args r) == 0) (refusal.Syntax r.number)
+unfoldable pub check_fields : Line → Result (Unit {0}) Refusal
+check_fields r = require (length (args r) == 0) (refusal.Syntax r.number)
 
 -- Whether the given rows agree with the present tree.
 unfoldable pub checked : Session → Line → List Line → Result Bool Refusal
 checked s r rs = do
-  check_words r
+  check_fields r
   given ← read_whole (check_names s.f [] rs)
   Ok (is_same (compared s.f given s.tree))
 

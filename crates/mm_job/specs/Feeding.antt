@@ -20,7 +20,7 @@ IsWithin s = s.handed ≤ length (lines_of s.ended s.bytes)
 
 -- A job that has taken some lines has written what they say, whatever lines come after, and knows what they come to.
 pub record Fed (limit : ℕ) (old new : JobState) (lines lines_new : List Line) (held held_new : Option (List ℕ)) : Type 0 where
-  pub output_line : List OutputLine
-  pub grew : Appends held held_new (printed_all output_line)
-  pub same : (e : Ending) (rs : List Line) → lines_from_stage limit old.stage e (lines ++ rs) ≡ output_line ++ lines_from_stage limit new.stage e (lines_new ++ rs)
-  pub comes : new.status ≡ come_to old.status output_line
+  pub outputs : List OutputLine
+  pub grew : Appends held held_new (printed_all outputs)
+  pub same : (e : Ending) (rs : List Line) → lines_from_stage limit old.stage e (lines ++ rs) ≡ outputs ++ lines_from_stage limit new.stage e (lines_new ++ rs)
+  pub comes : new.status ≡ come_to old.status outputs

@@ -1,14 +1,11 @@
 pub mod Meaning
 pub mod NotBuilt
-pub mod QueryLines
 pub mod Header
 pub mod Items
 pub mod Edits
 pub mod Output
 pub mod Laws
-pub mod HeaderStates
 pub mod PlainTruth
-pub mod Queries
 pub mod Sessions
 pub mod Blocks
 pub mod Stages
@@ -17,4 +14,3 @@ pub mod Feeding
 pub mod Standing
 pub mod Kept
 pub mod Jobs
-pub mod Building

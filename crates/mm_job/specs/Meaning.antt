@@ -1,29 +1,16 @@
 -- What formulas and answers mean to a job, in the words of the crates below it.
-use Rattle.std.specs.Prelude.{ℕ, ◌+◌, ℤ, pos, negsuc, Bool, true, ◌||◌, List, [], ◌∷◌, ◌++◌, replicate, codes, flat_map, Option, Some, None, if◌then◌else◌}
+use Rattle.std.specs.Prelude.{ℕ, ◌+◌, ℤ, pos, negsuc, Bool, true, List, [], ◌∷◌, ◌++◌, replicate, codes, flat_map, Option, Some, None, if◌then◌else◌}
 use Rattle.std.specs.List.{items_where_true}
 use Rattle.std.specs.Fmt.{decimal}
 use Rattle.mm_field.specs.declared.Field.{Field}
 use Rattle.mm_formula.specs.Syntax.{Syntax}
 use Rattle.mm_formula.specs.Scope.{slotted}
-use Rattle.mm_formula_text.specs.Grammar.{begins_in_blank, ends_in_blank}
-use Rattle.mm_formula_text.specs.Tokens.{tokens}
-use Rattle.mm_formula_text.specs.Parser.{run, start}
+use Rattle.mm_header.specs.Queries.{Query}
 use Rattle.mm_logic.specs.Least.{least, weight}
 use Rattle.mm_logic.specs.Marks.{unmarked}
 use Rattle.mm_logic.specs.Meaning.{holds}
 use Rattle.mm_logic.specs.Tree as shapes
 use Rattle.mm_tree.specs.NamedTree.{Tree, shape, element_names, weights}
-
--- The formula that the grammar derives from a text: a text derives one at most.
-unfoldable pub formula_of : List ℕ → Option Syntax
-formula_of text = if begins_in_blank text || ends_in_blank text then None else run start (tokens text)
-
--- A query: the set variable that is sought, if one is, and the formula.
-pub record Query : Type 0 where
-  pub sought : Option (List ℕ)
-  pub formula : Syntax
-
--- ---- answers
 
 -- All elements of a tree.
 abbrev pub everything : Tree → List Bool

@@ -3,7 +3,7 @@ use Rattle.std.specs.Prelude.{ℕ, ◌+◌, ◌*◌, Bool, true, false, ◌&&◌
 use Rattle.std.specs.declared.result.Result.{Result}
 use Rattle.mm_formula.specs.Syntax.{Syntax, nodes}
 use Rattle.mm_formula.specs.Syntax.Syntax.{Not, Bin, Ex, All}
-use Rattle.mm_job.specs.Meaning.{Query}
+use Rattle.mm_header.specs.Queries.{Query}
 use Rattle.mm_tree.specs.NamedTree.{Tree}
 use Rattle.mm_tree.specs.NamedTree.{nodes as tree_nodes}
 use Rattle.mm_job_text.specs.declared.refusal.Refusal.{Refusal}

@@ -1,6 +1,6 @@
 -- The sessions of the program.
 use Rattle.mm_job.specs.Header as header
-use Rattle.mm_job.specs.Queries.{query_value}
+use Rattle.mm_header.specs.QueryValues.{query_value}
 use Rattle.mm_job.specs.declared.session.Session.{Session}
 
 abbrev pub session_of : Session → header.Session

@@ -6,12 +6,13 @@ ghost use Rattle.mm_job.specs.Edits.{block, check_names, check_rows};
 ghost use Rattle.std.specs.List.{IsDistinct};
 ghost use Rattle.std.specs.Str.{bytes_eq};
 ghost use Rattle.mm_job.specs.Header.{Session};
-ghost use Rattle.mm_job.specs.HeaderStates.{IsMatrix};
+ghost use Rattle.mm_header.specs.State.HeaderStates.{IsMatrix};
 ghost use Rattle.mm_job.specs.Items.{closes, opens};
 
 use crate::edit::read_replace;
 use mm_base::NoMemory;
 use mm_field::Field;
+use mm_header::HeaderRules;
 use mm_job_text::{NameSet, Refusal, Stop, add_elements, add_row, args, begins, is_word, too_long};
 use mm_lines::Line;
 use mm_matrix::Matrix;
@@ -45,7 +46,7 @@ pub fn closes(line: &Line) -> bool
 
 impl Block {
     /// The block that a line opens.
-    #[tactic(auto, unfolding(crate::specs::Edits::block, crate::specs::Edits::replace_edit, crate::specs::Edits::checked, crate::specs::Edits::check_words), using(mm_tree::proofs::BuilderLemmas::none_distinct))]
+    #[tactic(auto, unfolding(crate::specs::Edits::block, crate::specs::Edits::replace_edit, crate::specs::Edits::checked, crate::specs::Edits::check_fields), using(mm_tree::proofs::BuilderLemmas::none_distinct))]
     pub fn open(alloc: Global, line: &Line) -> Block
         requires opens { opens line.now ≡ true }
         ensures begun { (s : Session) → IsBegun s.f result }
@@ -88,7 +89,7 @@ fn take_check_row(alloc: Global, f: Field, given: Named, line: &Line) -> Result<
 }
 
 /// Takes a line of a check that is not its `end`, after these names.
-#[tactic(auto, unfolding(crate::specs::Edits::check_names), using(crate::proofs::KeptLemmas::elements_kept))]
+#[tactic(auto, unfolding(crate::specs::Edits::check_names), using(mm_header::proofs::KeptLemmas::elements_kept))]
 fn take_check_name(alloc: Global, f: Field, names: NameSet, line: &Line) -> Result<Block, NoMemory>
     requires inside { closes line.now ≡ false }
     requires different { IsDistinct bytes_eq names }
@@ -98,7 +99,7 @@ fn take_check_name(alloc: Global, f: Field, names: NameSet, line: &Line) -> Resu
 {
     if begins(line, b"elements") {
         let mut names = names;
-        return match add_elements(alloc, &mut names, line) {
+        return match add_elements(alloc, HeaderRules::of_job().names, &mut names, line) {
             Ok(()) => Ok(Block::Names(names)),
             Err(Stop::Refused(refusal)) => Ok(Block::Denied(refusal)),
             Err(Stop::NoMemory) => Err(NoMemory),

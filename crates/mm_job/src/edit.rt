@@ -1,7 +1,7 @@
 //! The lines of edits, each by itself.
 ghost use Rattle.std.specs.Prelude.{◌≡◌, ◌∷◌, List, Ok, Err, MatchResult};
 ghost use Rattle.mm_lines.specs.declared.line.Line.{Line};
-ghost use Rattle.mm_job.specs.Edits.{Denied, replace_words, single, weight_words};
+ghost use Rattle.mm_job.specs.Edits.{Denied, replace_fields, single, weight_fields};
 ghost use Rattle.mm_job.specs.Header.{Session};
 
 use mm_base::Name;
@@ -27,9 +27,9 @@ pub struct Above {
 }
 
 /// `weight NAME WEIGHT`
-#[tactic(auto, unfolding(crate::specs::Edits::weight_words))]
+#[tactic(auto, unfolding(crate::specs::Edits::weight_fields))]
 fn read_weight(line: &Line) -> Result<NewWeight, Refusal>
-    ensures { MatchResult result (λ w. weight_words line.now ≡ Ok (w.name, w.weight)) (λ refusal. weight_words line.now ≡ Err refusal) }
+    ensures { MatchResult result (λ w. weight_fields line.now ≡ Ok (w.name, w.weight)) (λ refusal. weight_fields line.now ≡ Err refusal) }
 {
     let Some((name, weight)) = two(args(line)) else {
         return Err(Refusal::Syntax(line.number));
@@ -44,9 +44,9 @@ fn read_weight(line: &Line) -> Result<NewWeight, Refusal>
 }
 
 /// `replace NAME UP`
-#[tactic(auto, unfolding(crate::specs::Edits::replace_words))]
+#[tactic(auto, unfolding(crate::specs::Edits::replace_fields))]
 pub fn read_replace(line: &Line) -> Result<Above, Refusal>
-    ensures { MatchResult result (λ w. replace_words line.now ≡ Ok (w.name, w.up)) (λ refusal. replace_words line.now ≡ Err refusal) }
+    ensures { MatchResult result (λ w. replace_fields line.now ≡ Ok (w.name, w.up)) (λ refusal. replace_fields line.now ≡ Err refusal) }
 {
     let Some((name, up)) = two(args(line)) else {
         return Err(Refusal::Syntax(line.number));

@@ -5,7 +5,7 @@ ghost use Rattle.std.specs.Str.{bytes_eq};
 ghost use Rattle.mm_lines.specs.declared.line.Line.{Line};
 ghost use Rattle.mm_job.specs.Blocks.{AreBegun, IsBegun, block_from, lines_from_block, written};
 ghost use Rattle.mm_job.specs.Items.{closes};
-ghost use Rattle.mm_job.specs.HeaderStates.{IsMatrix};
+ghost use Rattle.mm_header.specs.State.HeaderStates.{IsMatrix};
 ghost use Rattle.mm_present.specs.Comparing.{compared};
 ghost use Rattle.mm_job.specs.Output.{Ending, reply_line};
 ghost use Rattle.mm_job.specs.Edits.{is_same};

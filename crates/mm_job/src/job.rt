@@ -1,12 +1,11 @@
 //! A job, whose text comes in pieces.
-use crate::pieces::{take_last, take_piece, take_text_end};
+use crate::feed::{take_last, take_piece, take_text_end};
 use crate::progress::{JobFault, Progress};
 use crate::state::{JobState, is_refused, nothing_read};
 use mm_base::{Sink, Status, Steps};
 use mm_lines::Framer;
 use std::alloc::Global;
 use std::marker::Model;
-use std::mem;
 use std::sync::ledger::Ledger;
 
 /// The most bytes of a text that are used.
@@ -77,13 +76,18 @@ impl Job {
         ensures cause { HasJobCause (K.faults out.old) (K.faults out.new) result }
     {
         self.live = false;
-        let state = mem::replace(&mut self.state, nothing_read());
-        let state = take_piece(alloc, self.limit, state, &mut self.framer, piece, out)?;
-        if is_refused(state.status) {
+        take_piece(
+            alloc,
+            self.limit,
+            &mut self.state,
+            &mut self.framer,
+            piece,
+            out,
+        )?;
+        if is_refused(self.state.status) {
             return Ok(Progress::Ended(Status::Refused));
         }
         self.taken += piece.len();
-        self.state = state;
         self.live = true;
         Ok(Progress::More)
     }
@@ -105,8 +109,14 @@ impl Job {
         ensures cause { HasJobCause (K.faults out.old) (K.faults out.new) result }
     {
         self.live = false;
-        let state = mem::replace(&mut self.state, nothing_read());
-        let status = take_last(alloc, self.limit, state, &mut self.framer, piece, out)?;
+        let status = take_last(
+            alloc,
+            self.limit,
+            &mut self.state,
+            &mut self.framer,
+            piece,
+            out,
+        )?;
         Ok(Progress::Ended(status))
     }
 
@@ -155,8 +165,13 @@ impl Job {
         ensures steps { steps.new ≡ steps.old }
     {
         self.live = false;
-        let state = mem::replace(&mut self.state, nothing_read());
-        take_text_end(alloc, self.limit, state, &mut self.framer, out)
+        take_text_end(
+            alloc,
+            self.limit,
+            &mut self.state,
+            &mut self.framer,
+            out,
+        )
     }
 
     /// Whether the job goes on: no call of `feed` on it answered `Ended`, none answered an error, and it was not finished.

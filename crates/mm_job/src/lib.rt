@@ -3,23 +3,18 @@
 
 mod block;
 mod edit;
-mod feeding;
-mod header;
+mod feed;
 mod items;
 mod job;
 mod laws;
 mod output_line;
-mod pieces;
 mod progress;
-mod query;
 mod session;
 mod stage;
 mod state;
-mod tree_lines;
 mod truth;
 
 pub use block::Block;
-pub use header::{HeaderData, HeaderState, HeaderStep, take_head_line};
 pub use items::{ItemStep, take_item_line};
 pub use job::Job;
 pub use laws::{
@@ -28,6 +23,5 @@ pub use laws::{
 };
 pub use output_line::OutputLine;
 pub use progress::{JobFault, Progress};
-pub use query::read_query;
 pub use session::{Session, answer, start};
 pub use stage::{LineStep, Stage, take_line};

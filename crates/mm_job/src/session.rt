@@ -1,34 +1,33 @@
 //! What a job answers about.
 ghost use Rattle.std.specs.Prelude.{◌≡◌, ◌≤◌, ◌∷◌, not, List, IfOk, true};
 ghost use Rattle.mm_lines.specs.declared.line.Line.{Line};
-ghost use Rattle.mm_job.specs.HeaderStates.{Goes, IsHeaderData, Reads, given_of};
-ghost use Rattle.mm_job.specs.Header.{after_parts, built, built_line, matched};
+ghost use Rattle.mm_header.specs.QueryValues.{query_value};
+ghost use Rattle.mm_header.specs.State.HeaderStates.{IsHeader, header_value};
+ghost use Rattle.mm_job.specs.Header.{after_parts, built, built_line};
 ghost use Rattle.mm_job.specs.NotBuilt.{is_built, may_be_over, over_limit};
+ghost use Rattle.mm_job_text.specs.Becoming.{Goes, Reads};
 ghost use Rattle.mm_job_text.specs.Checks.{require};
 ghost use Rattle.mm_job.specs.Output.{answered};
 ghost use Rattle.mm_job.specs.PlainTruth.{plain_truth};
 ghost use Rattle.mm_formula.specs.Syntax.{nodes, syntax_of};
 ghost use Rattle.mm_job.specs.Meaning.{everything};
-ghost use Rattle.mm_present.specs.Comparing.{compared};
 ghost use Rattle.mm_logic.specs.PresentMatrix.{is_independent_set};
 ghost use Rattle.mm_tree.specs.NamedTree.{shape};
 ghost use Rattle.mm_job_text.specs.Readers.{Read};
-ghost use Rattle.mm_job.specs.Queries.{query_value};
 ghost use Rattle.mm_job.specs.Sessions.{session_of};
 ghost use Rattle.mm_job.specs.declared.output_line.OutputLine.TheVariants.{Says};
 
-use crate::header::HeaderData;
 use crate::items::says;
 use crate::output_line::OutputLine;
-use crate::query::{is_plain, read_query};
-use crate::truth::{plain_truth, speaks_of_all};
+use crate::truth::{is_plain, plain_truth, speaks_of_all};
 use mm_base::NoMemory;
+use mm_header::{HeaderData, Question, match_rows, read_query};
 use mm_field::Field;
 use mm_formula::{Formula, Scoped};
-use mm_job_text::{Refusal, Stop, too_long};
+use mm_job_text::{Refusal, Stop};
 use mm_lines::Line;
 use mm_ops::OpTable;
-use mm_present::{Verdict, compare, is_independent};
+use mm_present::is_independent;
 use mm_tree::Tree;
 use std::alloc::Global;
 
@@ -78,18 +77,6 @@ pub fn answer(alloc: Global, session: &Session) -> Result<OutputLine, NoMemory>
     }
 }
 
-/// The given rows span the row space of the tree's matrix.
-fn matched(verdict: Verdict) -> Result<(), Refusal>
-    ensures { result ≡ matched verdict }
-{
-    match verdict {
-        Verdict::Same => Ok(()),
-        Verdict::Elements(name) => Err(Refusal::Elements(name)),
-        Verdict::Given(i) => Err(Refusal::Given(i)),
-        Verdict::Present(j) => Err(Refusal::Present(j)),
-    }
-}
-
 /// A query that is built.
 fn built(query: &Scoped) -> Result<(), Refusal>
     ensures { result ≡ built (query_value query.now) }
@@ -106,10 +93,7 @@ fn built_query(alloc: Global, line: &Line) -> Result<Scoped, Stop>
     ensures built { IfOk result (λ query. is_built (query_value query) ≡ true) }
     ensures reads { Reads query_value result (built_line line.now) }
 {
-    if let Some(refusal) = too_long(line) {
-        return Err(Stop::Refused(refusal));
-    }
-    let query = read_query(alloc, line)?;
+    let query = read_query(alloc, Question::Spelled, line)?;
     match built(&query) {
         Ok(()) => Ok(query),
         Err(refusal) => Err(Stop::Refused(refusal)),
@@ -142,36 +126,23 @@ fn within_limit(limit: u64, query: &Scoped, tree: &Tree) -> Result<(), Refusal>
     }
 }
 
-/// Whether the given rows and the tree agree.
-fn check(alloc: Global, given: &HeaderData, tree: &Tree) -> Result<(), Stop>
-    requires given { IsHeaderData given.now }
-    requires tree { tree.now.f ≡ given.now.field }
-    ensures { Reads (λ (u : Unit {0}). u) result (matched (compared given.now.field (record { names = given.now.matrix.names; rows = given.now.matrix.rows.rows }) (tree.now.tree))) }
-{
-    let verdict = compare(alloc, &given.matrix, tree)?;
-    match matched(verdict) {
-        Ok(()) => Ok(()),
-        Err(refusal) => Err(Stop::Refused(refusal)),
-    }
-}
-
 /// Takes the query line after a header.
 #[tactic(auto, unfolding(crate::specs::Header::query_part))]
 pub fn start(
     alloc: Global,
     limit: u64,
-    given: HeaderData,
+    header: HeaderData,
     tree: Tree,
     line: &Line,
 ) -> Result<Session, Stop>
-    requires given { IsHeaderData given }
-    requires tree { tree.f ≡ given.field }
+    requires header { IsHeader header }
+    requires tree { tree.f ≡ header.field }
     ensures tree { IfOk result (λ s. s.tree.f ≡ s.field) }
     ensures built { IfOk result (λ s. is_built (query_value s.query) ≡ true) }
-    ensures goes { (rs : List Line) → Goes result (after_parts limit (given_of given, tree.tree) (line.now ∷ rs)) (λ s. Read (session_of s) rs) }
+    ensures goes { (rs : List Line) → Goes result (after_parts limit (header_value header, tree.tree) (line.now ∷ rs)) (λ s. Read (session_of s) rs) }
 {
     let query = built_query(alloc, line)?;
-    check(alloc, &given, &tree)?;
+    match_rows(alloc, &header, &tree)?;
     if let Err(refusal) = within_limit(limit, &query, &tree) {
         return Err(Stop::Refused(refusal));
     }
@@ -180,7 +151,7 @@ pub fn start(
         field,
         matrix: _,
         ops,
-    } = given;
+    } = header;
     Ok(Session {
         field,
         ops,

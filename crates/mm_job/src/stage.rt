@@ -7,11 +7,11 @@ ghost use Rattle.mm_job.specs.Stages.{IsKeptAt, lines_from_stage};
 ghost use Rattle.mm_job.specs.declared.stage.Stage.TheVariants as stages;
 
 use crate::block::Block;
-use crate::header::{HeaderData, HeaderState, HeaderStep, take_head_line};
 use crate::items::take_item_line;
 use crate::output_line::OutputLine;
 use crate::session::{Session, answer, start};
 use mm_base::NoMemory;
+use mm_header::{HeaderData, HeaderRules, HeaderState, HeaderStep, take_header_line};
 use mm_job_text::Stop;
 use mm_lines::Line;
 use mm_tree::Tree;
@@ -21,7 +21,7 @@ use std::alloc::Global;
 #[derive(Drop)]
 pub enum Stage {
     /// The header up to its tree.
-    HeaderState(HeaderState),
+    Header(HeaderState),
     /// The query.
     Query(HeaderData, Tree),
     /// An item, or a line of the block that has begun.
@@ -43,22 +43,22 @@ pub struct LineStep {
 fn take_header(
     alloc: Global,
     limit: u64,
-    head: HeaderState,
+    header: HeaderState,
     line: &Line,
 ) -> Result<LineStep, NoMemory>
-    requires kept { IsKeptAt (stages.HeaderState head) }
+    requires kept { IsKeptAt (stages.Header header) }
     ensures kept { IfOk result (λ taken. IsKeptAt taken.stage) }
     ensures step { IfOk result (λ taken. (e : Ending) (rs : List Line) →
-        lines_from_stage limit (stages.HeaderState head) e (line.now ∷ rs) ≡ written taken.output_line ++ lines_from_stage limit taken.stage e rs) }
+        lines_from_stage limit (stages.Header header) e (line.now ∷ rs) ≡ written taken.output_line ++ lines_from_stage limit taken.stage e rs) }
 {
-    match take_head_line(alloc, head, line) {
-        Ok(HeaderStep::More(head)) => Ok(LineStep {
+    match take_header_line(alloc, HeaderRules::of_job(), header, line) {
+        Ok(HeaderStep::More(header)) => Ok(LineStep {
             output_line: None,
-            stage: Stage::HeaderState(head),
+            stage: Stage::Header(header),
         }),
-        Ok(HeaderStep::Parts(given, tree)) => Ok(LineStep {
+        Ok(HeaderStep::Parts(header, tree)) => Ok(LineStep {
             output_line: None,
-            stage: Stage::Query(given, tree),
+            stage: Stage::Query(header, tree),
         }),
         Err(Stop::Refused(refusal)) => Ok(LineStep {
             output_line: Some(OutputLine::Refuses(refusal)),
@@ -72,16 +72,16 @@ fn take_header(
 fn take_query(
     alloc: Global,
     limit: u64,
-    given: HeaderData,
+    header: HeaderData,
     tree: Tree,
     line: &Line,
 ) -> Result<LineStep, NoMemory>
-    requires kept { IsKeptAt (stages.Query given tree) }
+    requires kept { IsKeptAt (stages.Query header tree) }
     ensures kept { IfOk result (λ taken. IsKeptAt taken.stage) }
     ensures step { IfOk result (λ taken. (e : Ending) (rs : List Line) →
-        lines_from_stage limit (stages.Query given tree) e (line.now ∷ rs) ≡ written taken.output_line ++ lines_from_stage limit taken.stage e rs) }
+        lines_from_stage limit (stages.Query header tree) e (line.now ∷ rs) ≡ written taken.output_line ++ lines_from_stage limit taken.stage e rs) }
 {
-    match start(alloc, limit, given, tree, line) {
+    match start(alloc, limit, header, tree, line) {
         Ok(session) => {
             let output_line = answer(alloc, &session)?;
             Ok(LineStep {
@@ -125,8 +125,8 @@ pub fn take_line(alloc: Global, limit: u64, stage: Stage, line: &Line) -> Result
         lines_from_stage limit stage e (line.now ∷ rs) ≡ written taken.output_line ++ lines_from_stage limit taken.stage e rs) }
 {
     match stage {
-        Stage::HeaderState(head) => take_header(alloc, limit, head, line),
-        Stage::Query(given, tree) => take_query(alloc, limit, given, tree, line),
+        Stage::Header(header) => take_header(alloc, limit, header, line),
+        Stage::Query(header, tree) => take_query(alloc, limit, header, tree, line),
         Stage::Items(session, block) => take_item(alloc, limit, session, block, line),
         Stage::Refused => Ok(LineStep {
             output_line: None,

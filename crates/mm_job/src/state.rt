@@ -1,19 +1,23 @@
 //! How far a job has come, and what the lines that it wrote come to.
-ghost use Rattle.std.specs.Prelude.{◌≡◌, ◌∷◌, ℕ, [], None};
+ghost use Rattle.std.specs.Prelude.{◌≡◌, ◌++◌, ◌∷◌, ℕ, List, [], None, IfOk};
+ghost use Rattle.mm_lines.specs.declared.line.Line.{Line as LineOf};
 ghost use Rattle.mm_job.specs.Blocks.{lines_from_block, written};
 ghost use Rattle.mm_job.specs.JobStates.{after_output_line, come_to, end_by, is_refused, status_at};
 ghost use Rattle.mm_job.specs.Header.{Session};
-ghost use Rattle.mm_job.specs.Output.{cut_short, is_refusal};
-ghost use Rattle.mm_job.specs.Stages.{lines_from_stage};
-ghost use Rattle.mm_job.specs.declared.header.HeaderState.TheVariants as heads;
+ghost use Rattle.mm_job.specs.Output.{Ending, cut_short, is_refusal};
+ghost use Rattle.mm_job.specs.Stages.{IsKeptAt, lines_from_stage};
+ghost use Rattle.mm_header.specs.declared.state.HeaderState.TheVariants as headers;
 ghost use Rattle.mm_job.specs.declared.stage.Stage.TheVariants as stages;
 
 use crate::block::Block;
-use crate::header::HeaderState;
 use crate::output_line::OutputLine;
-use crate::stage::Stage;
-use mm_base::Status;
+use crate::stage::{LineStep, Stage, take_line};
+use mm_base::{NoMemory, Status};
+use mm_header::HeaderState;
 use mm_job_text::Refusal;
+use mm_lines::Line;
+use std::alloc::Global;
+use std::mem;
 
 /// What was read of a job, and what the lines that it wrote come to, if it wrote any.
 #[derive(Drop)]
@@ -26,10 +30,10 @@ pub struct JobState {
 
 /// A job that has read nothing.
 pub fn nothing_read() -> JobState
-    ensures { result ≡ record { stage = stages.HeaderState heads.Format; status = None } }
+    ensures { result ≡ record { stage = stages.Header headers.Format; status = None } }
 {
     JobState {
-        stage: Stage::HeaderState(HeaderState::Format),
+        stage: Stage::Header(HeaderState::Format),
         status: None,
     }
 }
@@ -113,9 +117,31 @@ pub fn last_output_line(stage: &Stage, over: bool) -> Option<OutputLine>
     ensures { (limit : ℕ) → written result ≡ lines_from_stage limit stage.now (end_by over) [] }
 {
     match stage {
-        Stage::HeaderState(_) => Some(cut_short(over)),
+        Stage::Header(_) => Some(cut_short(over)),
         Stage::Query(_, _) => Some(cut_short(over)),
         Stage::Items(_, block) => last_of_items(block, over),
         Stage::Refused => None,
+    }
+}
+
+impl JobState {
+    /// Takes a line, and gives the line that it writes. After an `Err` the state is worth nothing more.
+    pub fn take(
+        &mut self,
+        alloc: Global,
+        limit: u64,
+        line: &Line,
+    ) -> Result<Option<OutputLine>, NoMemory>
+        requires { IsKeptAt self.old.stage }
+        ensures kept { IfOk result (λ output. IsKeptAt self.new.stage) }
+        ensures step { IfOk result (λ output. (e : Ending) (rs : List LineOf) →
+            lines_from_stage limit self.old.stage e (line.now ∷ rs) ≡ written output ++ lines_from_stage limit self.new.stage e rs) }
+        ensures status { IfOk result (λ output. self.new.status ≡ come_to self.old.status (written output)) }
+    {
+        let stage = mem::replace(&mut self.stage, Stage::Refused);
+        let LineStep { output_line, stage } = take_line(alloc, limit, stage, line)?;
+        self.stage = stage;
+        self.status = after_step(self.status, &output_line);
+        Ok(output_line)
     }
 }

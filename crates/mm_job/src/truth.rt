@@ -2,6 +2,7 @@
 ghost use Rattle.std.specs.Prelude.{◌≡◌};
 ghost use Rattle.mm_formula.specs.Scope.{connective};
 ghost use Rattle.mm_formula.specs.Syntax.{syntax_of};
+ghost use Rattle.mm_job.specs.NotBuilt.{is_plain};
 ghost use Rattle.mm_job.specs.PlainTruth.{plain_truth, speaks_of_all};
 ghost use Rattle.mm_logic.specs.Formula.{connect};
 
@@ -50,5 +51,23 @@ pub fn speaks_of_all(formula: &Formula) -> bool
             speaks_of_all(second)
         }
         _ => false,
+    }
+}
+
+/// A formula without a quantifier.
+pub fn is_plain(formula: &Formula) -> bool
+    ensures { result ≡ is_plain (syntax_of formula.now) }
+{
+    match formula {
+        Formula::Not(body) => is_plain(body),
+        Formula::Bin(_, first, second) => {
+            if !is_plain(first) {
+                return false;
+            }
+            is_plain(second)
+        }
+        Formula::Ex(_, _) => false,
+        Formula::All(_, _) => false,
+        _ => true,
     }
 }

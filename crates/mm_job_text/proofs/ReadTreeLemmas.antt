@@ -1,27 +1,26 @@
 -- The operators of a tree that was read are those under their names.
-use Rattle.std.proofs.Common.{◌≡◌, ℕ, Bool, true, false, List, [], ◌∷◌, Some, ap, ◌∙◌, subst}
-use Rattle.std.specs.Prelude.{◌==◌, not, nat_lt, nat_le, codes, length, IfOk, Ok, Err, if◌then◌else◌}
-use Rattle.std.proofs.lemmas.Option.{same_Some}
+use Rattle.std.proofs.Common.{◌≡◌, ℕ, Bool, true, false, List, [], ◌∷◌, Option, Some, None, refl, sym, ap, ◌∙◌, subst}
+use Rattle.std.specs.Prelude.{nat_lt, codes, length, IfOk, Ok, Err, if◌then◌else◌}
+use Rattle.std.proofs.lemmas.Option.{same_Some, none-some}
 use Rattle.std.specs.declared.result.Result.{Result}
 use Rattle.std.specs.List.{AllByRecursion}
 use Rattle.mm_field.specs.declared.Field.{Field}
 use Rattle.mm_lines.specs.declared.line.Line.{Line}
 use Rattle.mm_ops.specs.OpValue.{OpValue}
 use Rattle.mm_ops.specs.Tables.{OperatorList, op_named}
-use Rattle.mm_tree.specs.Building.{AreOver}
+use Rattle.mm_tree.specs.Building.{AreOver, names_in, leaf_fault, named_fault, joined_by}
 use Rattle.mm_tree.proofs.BuilderLemmas.{over_named}
-use Rattle.mm_tree.specs.NamedTree.{Tree, boundary, depth, is_one_of}
+use Rattle.mm_tree.specs.NamedTree.{Tree}
 use Rattle.mm_tree.specs.NamedTree.Tree.{Elem, Void, Join}
-use Rattle.mm_tree.specs.ValidTree.{most_leaves, most_depth}
 use Rattle.mm_job_text.specs.Arguments.{begins, is_word}
 use Rattle.mm_job_text.specs.Checks.{◌>>=◌, ◌>>◌}
 use Rattle.mm_job_text.specs.Readers.{Reading, Read, line, each}
-use Rattle.mm_job_text.specs.TreeLines.{names_in, with_leaf, elem_words, elem_line, void_words, void_line, last_two, join_words, join_line, is_tree_part, tree_part, the_one, end_line, tree_lines}
+use Rattle.mm_job_text.specs.TreeLines.{tree_refusal, with_leaf, elem_fields, elem_line, void_fields, void_line, join_fields, join_line, is_tree_part, tree_part, the_one, end_line, tree_lines}
 use Rattle.mm_job_text.specs.WrittenTrees.{HoldsJoins}
 use Rattle.mm_job_text.specs.declared.refusal.Limit.TheVariants as limit
 use Rattle.mm_job_text.specs.declared.refusal.Refusal.{Refusal}
 use Rattle.mm_job_text.specs.declared.refusal.Refusal.TheVariants as refusal
-use Rattle.mm_job_text.proofs.ReadingLemmas.{IfRead, if_require, if_found, each_has, line_has, then_has}
+use Rattle.mm_job_text.proofs.ReadingLemmas.{IfRead, if_require, if_found, if_unless, each_has, line_has, then_has}
 
 -- ---- each line leaves trees whose operators are those under their names
 
@@ -32,49 +31,46 @@ if_next : {A B : Type 0} (P : B → Type 0) (r : Result A Refusal) (k : A → Re
 if_next P (Ok x) k h = h x
 if_next P (Err e) k h = tt
 
-leaf_held : (f : Field) (ops : OperatorList) (n : ℕ) (trees : List Tree) (name : List ℕ) (leaf : Tree) → AreHeld f ops trees → HoldsJoins f ops leaf
-    → IfOk (with_leaf n trees name leaf) (AreHeld f ops)
-leaf_held f ops n trees name leaf held h =
-    if_require (AreHeld f ops) (not (is_one_of name (names_in trees))) (refusal.Taken name) _ (λ free.
-    if_require (AreHeld f ops) (nat_lt (length (names_in trees)) most_leaves) (refusal.Over limit.Leaves n) _ (λ room. (h, held)))
+leaf_held : (most : ℕ) (f : Field) (ops : OperatorList) (n : ℕ) (trees : List Tree) (name : List ℕ) (leaf : Tree) → AreHeld f ops trees → HoldsJoins f ops leaf
+    → IfOk (with_leaf most n trees name leaf) (AreHeld f ops)
+leaf_held most f ops n trees name leaf held h =
+    if_unless (AreHeld f ops) (tree_refusal n (leaf_fault name trees)) _ (λ fits.
+    if_require (AreHeld f ops) (nat_lt (length (names_in trees)) most) (refusal.Over limit.Leaves n) _ (λ room. (h, held)))
 
-elem_held : (f : Field) (ops : OperatorList) (trees : List Tree) (r : Line) → AreHeld f ops trees → IfOk (elem_line f trees r) (AreHeld f ops)
+elem_held : (most : ℕ) (f : Field) (ops : OperatorList) (trees : List Tree) (r : Line) → AreHeld f ops trees → IfOk (elem_line most f trees r) (AreHeld f ops)
 unfolding elem_line HoldsJoins
-elem_held f ops trees r held =
-    if_next (AreHeld f ops) (elem_words f r) _ (λ w. leaf_held f ops r.number trees w.name (Elem w.name w.vec w.weight) held tt)
+elem_held most f ops trees r held =
+    if_next (AreHeld f ops) (elem_fields f r) _ (λ w. leaf_held most f ops r.number trees w.name (Elem w.name w.vec w.weight) held tt)
 
-void_held : (f : Field) (ops : OperatorList) (trees : List Tree) (r : Line) → AreHeld f ops trees → IfOk (void_line trees r) (AreHeld f ops)
+void_held : (most : ℕ) (f : Field) (ops : OperatorList) (trees : List Tree) (r : Line) → AreHeld f ops trees → IfOk (void_line most trees r) (AreHeld f ops)
 unfolding void_line HoldsJoins
-void_held f ops trees r held = if_next (AreHeld f ops) (void_words r) _ (λ w. leaf_held f ops r.number trees w.name (Void w.name w.t) held tt)
+void_held most f ops trees r held = if_next (AreHeld f ops) (void_fields r) _ (λ w. leaf_held most f ops r.number trees w.name (Void w.name w.t) held tt)
 
 op_held : (f : Field) (name : List ℕ) (ops : OperatorList) (op : OpValue) → AreOver f ops → op_named name ops ≡ Some op → op_named name ops ≡ Some (record { f = f; op = op.op })
 op_held f name ops op over h = h ∙ ap (λ (g : Field). Some (let o : OpValue = record { f = g; op = op.op } in o)) (over_named f name ops op over h)
 
-two_held : (f : Field) (ops : OperatorList) (trees : List Tree) (two : Tree × Tree × List Tree) → AreHeld f ops trees → last_two trees ≡ Some two
-    → HoldsJoins f ops two.0 × HoldsJoins f ops two.1 × AreHeld f ops two.2
-two_held f ops [] two held h = cc
-two_held f ops (tree ∷ []) two held h = cc
-two_held f ops (right ∷ left ∷ trees) two held h =
-    subst (λ (t : Tree × Tree × List Tree). HoldsJoins f ops t.0 × HoldsJoins f ops t.1 × AreHeld f ops t.2) (same_Some (left, right, trees) two h) (held.1.0, held.0, held.1.1)
+-- a join that is not refused has its operator and two trees
+joined_held : (f : Field) (ops : OperatorList) (n : ℕ) (name : List ℕ) (o : Option OpValue) (trees : List Tree) → op_named name ops ≡ o → AreOver f ops → AreHeld f ops trees
+    → tree_refusal n (named_fault name o trees) ≡ None → AreHeld f ops (joined_by name o trees)
+unfolding HoldsJoins
+joined_held f ops n name None trees is over held none = absurd (none-some (refusal.Unknown name) (sym none))
+joined_held f ops n name (Some op) [] is over held none = absurd (none-some (refusal.Trees n) (sym none))
+joined_held f ops n name (Some op) (tree ∷ []) is over held none = absurd (none-some (refusal.Trees n) (sym none))
+joined_held f ops n name (Some op) (right ∷ left ∷ trees) is over held none = ((op_held f name ops op over is, held.1.0, held.0), held.1.1)
 
 join_held : (f : Field) (ops : OperatorList) (trees : List Tree) (r : Line) → AreOver f ops → AreHeld f ops trees → IfOk (join_line ops trees r) (AreHeld f ops)
-unfolding join_line HoldsJoins
+unfolding join_line
 join_held f ops trees r over held =
-    if_next (AreHeld f ops) (join_words r) _ (λ name.
-    if_found (AreHeld f ops) (op_named name ops) (refusal.Unknown name) _ (λ op some.
-    if_found (AreHeld f ops) (last_two trees) (refusal.Trees r.number) _ (λ two last.
-    if_require (AreHeld f ops) (op.op.t1 == boundary two.0) (refusal.Boundary op.op.t1 (boundary two.0)) _ (λ first.
-    if_require (AreHeld f ops) (op.op.t2 == boundary two.1) (refusal.Boundary op.op.t2 (boundary two.1)) _ (λ second.
-    if_require (AreHeld f ops) (nat_le (depth (Join name op.op two.0 two.1)) most_depth) (refusal.Over limit.Depth r.number) _ (λ shallow.
-    let below = two_held f ops trees two held last in
-    ((op_held f name ops op over some, below.0, below.1), below.2)))))))
+    if_next (AreHeld f ops) (join_fields r) _ (λ name.
+    if_unless (AreHeld f ops) (tree_refusal r.number (named_fault name (op_named name ops) trees)) _ (λ none.
+    joined_held f ops r.number name (op_named name ops) trees refl over held none))
 
-part_held : (f : Field) (ops : OperatorList) (trees : List Tree) (r : Line) → AreOver f ops → AreHeld f ops trees → IfOk (tree_part f ops trees r) (AreHeld f ops)
-part_held f ops trees r over held = go (begins (codes "elem") r) (begins (codes "void") r)
+part_held : (most : ℕ) (f : Field) (ops : OperatorList) (trees : List Tree) (r : Line) → AreOver f ops → AreHeld f ops trees → IfOk (tree_part most f ops trees r) (AreHeld f ops)
+part_held most f ops trees r over held = go (begins (codes "elem") r) (begins (codes "void") r)
   where
-    go : (elem void : Bool) → IfOk (if elem then elem_line f trees r else if void then void_line trees r else join_line ops trees r) (AreHeld f ops)
-    go true void = elem_held f ops trees r held
-    go false true = void_held f ops trees r held
+    go : (elem void : Bool) → IfOk (if elem then elem_line most f trees r else if void then void_line most trees r else join_line ops trees r) (AreHeld f ops)
+    go true void = elem_held most f ops trees r held
+    go false true = void_held most f ops trees r held
     go false false = join_held f ops trees r over held
 
 -- ---- all lines
@@ -90,13 +86,13 @@ end_held f ops all r held =
     if_require (λ (read : Tree × ℕ). HoldsJoins f ops read.0) (is_word (codes "end") r) (refusal.Syntax r.number) _ (λ word.
     if_found (λ (read : Tree × ℕ). HoldsJoins f ops read.0) (the_one all) (refusal.Trees r.number) _ (λ tree one. one_held f ops all tree held one))
 
-tree_held : (f : Field) (ops : OperatorList) (rs : List Line) → AreOver f ops → IfRead (λ (read : Tree × ℕ). HoldsJoins f ops read.0) (tree_lines f ops [] rs)
+tree_held : (most : ℕ) (f : Field) (ops : OperatorList) (rs : List Line) → AreOver f ops → IfRead (λ (read : Tree × ℕ). HoldsJoins f ops read.0) (tree_lines most f ops [] rs)
 unfolding tree_lines
-tree_held f ops rs over =
-    then_has (AreHeld f ops) (λ (read : Tree × ℕ). HoldsJoins f ops read.0) (each is_tree_part (tree_part f ops) [] rs) (λ all. line (end_line all))
-    (each_has (AreHeld f ops) is_tree_part (tree_part f ops) (λ trees r held. part_held f ops trees r over held) [] rs tt)
+tree_held most f ops rs over =
+    then_has (AreHeld f ops) (λ (read : Tree × ℕ). HoldsJoins f ops read.0) (each is_tree_part (tree_part most f ops) [] rs) (λ all. line (end_line all))
+    (each_has (AreHeld f ops) is_tree_part (tree_part most f ops) (λ trees r held. part_held most f ops trees r over held) [] rs tt)
     (λ all rest held. line_has (λ (read : Tree × ℕ). HoldsJoins f ops read.0) (end_line all) (λ r. end_held f ops all r held) rest)
 
-pub read_is_held : (f : Field) (ops : OperatorList) (rs rest : List Line) (tree : Tree) (n : ℕ) → AreOver f ops → tree_lines f ops [] rs ≡ Read (tree, n) rest
+pub read_is_held : (most : ℕ) (f : Field) (ops : OperatorList) (rs rest : List Line) (tree : Tree) (n : ℕ) → AreOver f ops → tree_lines most f ops [] rs ≡ Read (tree, n) rest
     → HoldsJoins f ops tree
-read_is_held f ops rs rest tree n over h = subst (λ (reading : Reading (Tree × ℕ)). IfRead (λ (read : Tree × ℕ). HoldsJoins f ops read.0) reading) h (tree_held f ops rs over)
+read_is_held most f ops rs rest tree n over h = subst (λ (reading : Reading (Tree × ℕ)). IfRead (λ (read : Tree × ℕ). HoldsJoins f ops read.0) reading) h (tree_held most f ops rs over)

@@ -1,5 +1,5 @@
 -- A steady reader makes of some lines what it makes of these and more.
-use Rattle.std.specs.Prelude.{◌≡◌, refl, Bool, true, false, List, [], ◌∷◌, ◌++◌, Ok, Err, if◌then◌else◌}
+use Rattle.std.specs.Prelude.{◌≡◌, refl, ℕ, Bool, true, false, List, [], ◌∷◌, ◌++◌, Ok, Err, if◌then◌else◌}
 use Rattle.std.proofs.Common.{sym, subst}
 use Rattle.std.specs.declared.result.Result.{Result}
 use Rattle.mm_field.specs.declared.Field.{Field}
@@ -46,7 +46,7 @@ then_keeps more Short b k p h = tt
 pub bind_steady : {A B : Type 0} (p : Reader A) (k : A → Reader B) → IsSteady p → ((x : A) → IsSteady (k x)) → IsSteady (λ rs. and_then (p rs) k)
 bind_steady p k hp hk rs more = then_keeps more (p rs) (p (rs ++ more)) k (hp rs more) hk
 
-pub tree_lines_steady : (f : Field) (ops : OperatorList) (trees : List Tree) → IsSteady (tree_lines f ops trees)
+pub tree_lines_steady : (most : ℕ) (f : Field) (ops : OperatorList) (trees : List Tree) → IsSteady (tree_lines most f ops trees)
 unfolding tree_lines
-tree_lines_steady f ops trees =
-    bind_steady (each is_tree_part (tree_part f ops) trees) (λ all. line (end_line all)) (each_steady is_tree_part (tree_part f ops) trees) (λ all. line_steady (end_line all))
+tree_lines_steady most f ops trees =
+    bind_steady (each is_tree_part (tree_part most f ops) trees) (λ all. line (end_line all)) (each_steady is_tree_part (tree_part most f ops) trees) (λ all. line_steady (end_line all))

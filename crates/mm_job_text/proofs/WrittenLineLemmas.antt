@@ -1,5 +1,5 @@
 -- Each line of a written tree, and what it is read as.
-use Rattle.std.proofs.Common.{◌≡◌, ℕ, ◌≤◌, true, false, nat_lt, List, [], ◌∷◌, length, Some, ℤ, nat_abs, refl, ap, arith}
+use Rattle.std.proofs.Common.{◌≡◌, ℕ, ◌≤◌, true, false, max, nat_lt, List, [], ◌∷◌, length, Some, ℤ, nat_abs, refl, ap, arith}
 use Rattle.std.specs.Prelude.{◌==◌, nat_le, codes, Ok}
 use Rattle.std.specs.Fmt.{decimal, signed_decimal}
 use Rattle.std.proofs.lemmas.List.Elements.{All-from_recursion}
@@ -13,12 +13,13 @@ use Rattle.mm_lines.specs.declared.line.Line.{Line}
 use Rattle.mm_ops.specs.OpValue.{OpValue}
 use Rattle.mm_ops.specs.Tables.{OperatorList, op_named}
 use Rattle.mm_space.specs.VectorText.{vector_text}
+use Rattle.mm_tree.specs.Building.{names_in}
 use Rattle.mm_tree.specs.NamedTree.{Tree, boundary, depth, is_one_of}
 use Rattle.mm_tree.specs.NamedTree.Tree.{Elem, Void, Join}
 use Rattle.mm_tree.specs.TreeText.{spaced, elem_text, void_text, join_text}
 use Rattle.mm_tree.specs.ValidTree.{most_leaves, most_depth, most_weight}
 use Rattle.mm_job_text.specs.DigitTexts.{vector_of}
-use Rattle.mm_job_text.specs.TreeLines.{names_in, most_boundary, elem_words, elem_line, void_words, void_line, join_words, join_line, is_tree_part, tree_part, end_line}
+use Rattle.mm_job_text.specs.TreeLines.{most_boundary, elem_fields, elem_line, void_fields, void_line, join_fields, join_line, is_tree_part, tree_part, end_line}
 use Rattle.mm_job_text.proofs.SpacedLemmas.{IsWord, AreWords, tokens_spaced, plain_spaced, first_spaced, length_spaced}
 use Rattle.mm_job_text.proofs.NumeralLemmas.{decimal_word, length_small, signed_word, length_signed, name_word, vector_word, length_vector}
 use Rattle.mm_job_text.proofs.TextLineLemmas.{IsPlainLine}
@@ -88,35 +89,38 @@ end_is_no_part r e = rw e refl
 
 -- ---- what the lines are read as
 
--- a name that may be added to some trees
-pub record IsNew (name : List ℕ) (trees : List Tree) : Type 0 where
+-- a leaf of this name may be added to some trees, where there are at most so many leaves
+pub record IsNew (most : ℕ) (name : List ℕ) (trees : List Tree) : Type 0 where
   pub free : is_one_of name (names_in trees) ≡ false
-  pub room : nat_lt (length (names_in trees)) most_leaves ≡ true
+  pub few : nat_le most_leaves (length (names_in trees)) ≡ false
+  pub room : nat_lt (length (names_in trees)) most ≡ true
 
-pub elem_read : (f : Field) (ops : OperatorList) (trees : List Tree) (r : Line) (name vec : List ℕ) (weight : ℤ) (v w : List ℕ) → tokens (bytes_of r) ≡ codes "elem" ∷ name ∷ v ∷ w ∷ []
+pub elem_read : (most : ℕ) (f : Field) (ops : OperatorList) (trees : List Tree) (r : Line) (name vec : List ℕ) (weight : ℤ) (v w : List ℕ) → tokens (bytes_of r) ≡ codes "elem" ∷ name ∷ v ∷ w ∷ []
     → is_name name ≡ true → vector_of f v ≡ Some vec → i64_of w ≡ Some weight → nat_le (length vec) most_boundary ≡ true → nat_le (nat_abs weight) most_weight ≡ true
-    → IsNew name trees → tree_part f ops trees r ≡ Ok (Elem name vec weight ∷ trees)
-unfolding elem_line elem_words
-elem_read f ops trees r name vec weight v w e named shown number short light new =
+    → IsNew most name trees → tree_part most f ops trees r ≡ Ok (Elem name vec weight ∷ trees)
+unfolding elem_line elem_fields
+elem_read most f ops trees r name vec weight v w e named shown number short light new =
     let free = new.free in
+    let few = new.few in
     let room = new.room in
-    rw (e, named, shown, number, short, light, free, room) refl
+    rw (e, named, shown, number, short, light, free, few, room) refl
 
-pub void_read : (f : Field) (ops : OperatorList) (trees : List Tree) (r : Line) (name : List ℕ) (t : ℕ) (d : List ℕ) → tokens (bytes_of r) ≡ codes "void" ∷ name ∷ d ∷ []
+pub void_read : (most : ℕ) (f : Field) (ops : OperatorList) (trees : List Tree) (r : Line) (name : List ℕ) (t : ℕ) (d : List ℕ) → tokens (bytes_of r) ≡ codes "void" ∷ name ∷ d ∷ []
     → is_name name ≡ true → u32_of d ≡ Some t → nat_le t most_boundary ≡ true
-    → IsNew name trees → tree_part f ops trees r ≡ Ok (Void name t ∷ trees)
-unfolding void_line void_words
-void_read f ops trees r name t d e named number short new =
+    → IsNew most name trees → tree_part most f ops trees r ≡ Ok (Void name t ∷ trees)
+unfolding void_line void_fields
+void_read most f ops trees r name t d e named number short new =
     let free = new.free in
+    let few = new.few in
     let room = new.room in
-    rw (e, named, number, short, free, room) refl
+    rw (e, named, number, short, free, few, room) refl
 
-pub join_read : (f : Field) (ops : OperatorList) (trees : List Tree) (r : Line) (name : List ℕ) (op : OpValue) (left right : Tree) → tokens (bytes_of r) ≡ codes "join" ∷ name ∷ []
-    → is_name name ≡ true → op_named name ops ≡ Some op → (op.op.t1 == boundary left) ≡ true → (op.op.t2 == boundary right) ≡ true
-    → nat_le (depth (Join name op.op left right)) most_depth ≡ true
-    → tree_part f ops (right ∷ left ∷ trees) r ≡ Ok (Join name op.op left right ∷ trees)
-unfolding join_line join_words
-join_read f ops trees r name op left right e named known first second shallow = rw (e, named, known, first, second, shallow) refl
+pub join_read : (most : ℕ) (f : Field) (ops : OperatorList) (trees : List Tree) (r : Line) (name : List ℕ) (op : OpValue) (left right : Tree) → tokens (bytes_of r) ≡ codes "join" ∷ name ∷ []
+    → is_name name ≡ true → op_named name ops ≡ Some op → (boundary left == op.op.t1) ≡ true → (boundary right == op.op.t2) ≡ true
+    → nat_le most_depth (max (depth left) (depth right)) ≡ false
+    → tree_part most f ops (right ∷ left ∷ trees) r ≡ Ok (Join name op.op left right ∷ trees)
+unfolding join_line join_fields
+join_read most f ops trees r name op left right e named known first second shallow = rw (e, named, known, first, second, shallow) refl
 
 pub end_read : (tree : Tree) (r : Line) → tokens (bytes_of r) ≡ codes "end" ∷ [] → end_line (tree ∷ []) r ≡ Ok (tree, r.number)
 unfolding end_line

@@ -1,11 +1,11 @@
 -- The lines of a written tree are read as the tree.
-use Rattle.std.proofs.Common.{◌≡◌, ℕ, ◌+◌, ◌≤◌, Bool, true, false, List, [], ◌∷◌, ◌++◌, length, Some, ℤ, nat_abs, refl, sym, ap, ◌∙◌, append_assoc, arith}
+use Rattle.std.proofs.Common.{◌≡◌, ℕ, ◌+◌, ◌≤◌, Bool, true, false, max, List, [], ◌∷◌, ◌++◌, length, Some, ℤ, nat_abs, refl, sym, ap, ◌∙◌, append_assoc, arith}
 use Rattle.std.specs.Prelude.{◌==◌, nat_le, codes, Ok, if◌then◌else◌}
 use Rattle.std.specs.declared.result.Result.{Result}
 use Rattle.std.specs.Fmt.{decimal, signed_decimal}
 use Rattle.std.specs.List.{IsDistinct}
 use Rattle.std.specs.Str.{bytes_eq}
-use Rattle.std.proofs.lemmas.Bool.{le-leb, lt-ltb, eq-eqb, or_from, or_left, or_right}
+use Rattle.std.proofs.lemmas.Bool.{le-leb, lt-leb, lt-ltb, eq-eqb, or_from, or_left, or_right}
 use Rattle.std.proofs.lemmas.List.{length-append}
 use Rattle.std.proofs.lemmas.List.Elements.{All-head}
 use Rattle.mm_base.specs.Names.{is_name}
@@ -17,6 +17,7 @@ use Rattle.mm_lines.specs.declared.line.Line.{Line}
 use Rattle.mm_logic.specs.Operator.{Op}
 use Rattle.mm_ops.specs.Tables.{OperatorList, op_named}
 use Rattle.mm_space.specs.VectorText.{vector_text}
+use Rattle.mm_tree.specs.Building.{names_in}
 use Rattle.mm_tree.specs.NamedTree.{Tree, shape, boundary, depth, nodes, weights, node_names, leaf_names, is_one_of}
 use Rattle.mm_tree.specs.NamedTree.Tree.{Elem, Void, Join}
 use Rattle.mm_tree.specs.TreeText.{elem_text, void_text, join_text, node_lines, tree_text}
@@ -24,7 +25,7 @@ use Rattle.mm_tree.specs.ValidTree.{IsValidTree, most_leaves, most_depth, most_w
 use Rattle.mm_tree.proofs.NameLemmas.{AreApart, one_of_append, distinct_apart}
 use Rattle.mm_tree.proofs.TreeLemmas.{few_nodes, valid_left, valid_right, shape_boundary, names_join}
 use Rattle.mm_job_text.specs.Readers.{Reading, Read, and_then, now, line, goes_on, each}
-use Rattle.mm_job_text.specs.TreeLines.{names_in, is_tree_part, tree_part, end_line, tree_lines}
+use Rattle.mm_job_text.specs.TreeLines.{is_tree_part, tree_part, end_line, tree_lines}
 use Rattle.mm_job_text.specs.WrittenTrees.{HoldsJoins}
 use Rattle.mm_job_text.specs.declared.refusal.Refusal.{Refusal}
 use Rattle.mm_job_text.proofs.DigitLemmas.{vector_of_text}
@@ -59,17 +60,17 @@ void_good f name t v = (All-head IsName name [] v.formed, v.valid_shape)
 
 pub record IsGoodJoin (name : List ℕ) (op : Op) (left right : Tree) : Type 0 where
   pub named : is_name name ≡ true
-  pub first : (op.t1 == boundary left) ≡ true
-  pub second : (op.t2 == boundary right) ≡ true
-  pub shallow : nat_le (depth (Join name op left right)) most_depth ≡ true
+  pub first : (boundary left == op.t1) ≡ true
+  pub second : (boundary right == op.t2) ≡ true
+  pub shallow : nat_le most_depth (max (depth left) (depth right)) ≡ false
 
 join_good : (f : Field) (name : List ℕ) (op : Op) (left right : Tree) → IsValidTree f (Join name op left right) → IsGoodJoin name op left right
-unfolding shape
+unfolding shape depth
 join_good f name op left right v = record {
   named = (names_join name op left right v.formed).0;
-  first = eq-eqb op.t1 (boundary left) (sym v.valid_shape.1 ∙ shape_boundary left);
-  second = eq-eqb op.t2 (boundary right) (sym v.valid_shape.2 ∙ shape_boundary right);
-  shallow = le-leb (depth (Join name op left right)) most_depth v.shallow;
+  first = eq-eqb (boundary left) op.t1 (sym (sym v.valid_shape.1 ∙ shape_boundary left));
+  second = eq-eqb (boundary right) op.t2 (sym (sym v.valid_shape.2 ∙ shape_boundary right));
+  shallow = lt-leb most_depth (max (depth left) (depth right)) (omega (arith, v.shallow));
 }
 
 join_held : (f : Field) (ops : OperatorList) (name : List ℕ) (op : Op) (left right : Tree) → HoldsJoins f ops (Join name op left right)
@@ -110,14 +111,16 @@ node_count (Join name op left right) =
 -- ---- names that differ
 
 -- no leaf of the tree has a name of the trees before it, and they are not too many together
-pub record IsApart (tree : Tree) (trees : List Tree) : Type 0 where
+pub record IsApart (most : ℕ) (tree : Tree) (trees : List Tree) : Type 0 where
   pub apart : AreApart (leaf_names tree) (names_in trees)
-  pub room : length (leaf_names tree) + length (names_in trees) ≤ most_leaves
+  pub few : length (leaf_names tree) + length (names_in trees) ≤ most_leaves
+  pub room : length (leaf_names tree) + length (names_in trees) ≤ most
 
-left_apart : (name : List ℕ) (op : Op) (left right : Tree) (trees : List Tree) → IsApart (Join name op left right) trees → IsApart left trees
+left_apart : (most : ℕ) (name : List ℕ) (op : Op) (left right : Tree) (trees : List Tree) → IsApart most (Join name op left right) trees → IsApart most left trees
 unfolding leaf_names
-left_apart name op left right trees h = record {
+left_apart most name op left right trees h = record {
   apart = λ x e. h.apart x (one_of_append x (leaf_names left) (leaf_names right) ∙ or_left (is_one_of x (leaf_names left)) (is_one_of x (leaf_names right)) e);
+  few = omega (arith, h.few, length-append (leaf_names left) (leaf_names right));
   room = omega (arith, h.room, length-append (leaf_names left) (leaf_names right));
 }
 
@@ -125,31 +128,35 @@ not_in_left : (xs ys : List (List ℕ)) (x : List ℕ) (b : Bool) → AreApart x
 not_in_left xs ys x true h e i = sym e ∙ h x i
 not_in_left xs ys x false h e i = refl
 
-right_apart : (name : List ℕ) (op : Op) (left right : Tree) (trees : List Tree) → IsDistinct bytes_eq (leaf_names (Join name op left right))
-    → IsApart (Join name op left right) trees → IsApart right (left ∷ trees)
+right_apart : (most : ℕ) (name : List ℕ) (op : Op) (left right : Tree) (trees : List Tree) → IsDistinct bytes_eq (leaf_names (Join name op left right))
+    → IsApart most (Join name op left right) trees → IsApart most right (left ∷ trees)
 unfolding leaf_names
-right_apart name op left right trees d h =
+right_apart most name op left right trees d h =
     let ls = leaf_names left in
     let rs = leaf_names right in
     record {
-      apart = λ x e. one_of_append x ls (names_in trees)
-          ∙ or_from (is_one_of x ls) (is_one_of x (names_in trees)) (not_in_left ls rs x (is_one_of x ls) (distinct_apart ls rs d) e refl)
-          (h.apart x (one_of_append x ls rs ∙ or_right (is_one_of x ls) (is_one_of x rs) e));
-      room = omega (arith, h.room, length-append ls rs, length-append ls (names_in trees));
+      apart = λ x e. one_of_append x (names_in trees) ls
+          ∙ or_from (is_one_of x (names_in trees)) (is_one_of x ls)
+          (h.apart x (one_of_append x ls rs ∙ or_right (is_one_of x ls) (is_one_of x rs) e))
+          (not_in_left ls rs x (is_one_of x ls) (distinct_apart ls rs d) e refl);
+      few = omega (arith, h.few, length-append ls rs, length-append (names_in trees) ls);
+      room = omega (arith, h.room, length-append ls rs, length-append (names_in trees) ls);
     }
 
-elem_new : (name vec : List ℕ) (weight : ℤ) (trees : List Tree) → IsApart (Elem name vec weight) trees → IsNew name trees
+elem_new : (most : ℕ) (name vec : List ℕ) (weight : ℤ) (trees : List Tree) → IsApart most (Elem name vec weight) trees → IsNew most name trees
 unfolding leaf_names
-elem_new name vec weight trees h = record {
+elem_new most name vec weight trees h = record {
   free = h.apart name (or_left (bytes_eq name name) false (bytes_same name));
-  room = lt-ltb (length (names_in trees)) most_leaves (omega (arith, h.room));
+  few = lt-leb most_leaves (length (names_in trees)) (omega (arith, h.few));
+  room = lt-ltb (length (names_in trees)) most (omega (arith, h.room));
 }
 
-void_new : (name : List ℕ) (t : ℕ) (trees : List Tree) → IsApart (Void name t) trees → IsNew name trees
+void_new : (most : ℕ) (name : List ℕ) (t : ℕ) (trees : List Tree) → IsApart most (Void name t) trees → IsNew most name trees
 unfolding leaf_names
-void_new name t trees h = record {
+void_new most name t trees h = record {
   free = h.apart name (or_left (bytes_eq name name) false (bytes_same name));
-  room = lt-ltb (length (names_in trees)) most_leaves (omega (arith, h.room));
+  few = lt-leb most_leaves (length (names_in trees)) (omega (arith, h.few));
+  room = lt-ltb (length (names_in trees)) most (omega (arith, h.room));
 }
 
 -- ---- reading
@@ -162,35 +169,35 @@ each_passes {A} test g x y r rs t e =
 each_stops : {A : Type 0} (test : Line → Bool) (g : A → Line → Result A Refusal) (x : A) (r : Line) (rs : List Line) → test r ≡ false → each test g x (r ∷ rs) ≡ Read x (r ∷ rs)
 each_stops test g x r rs t = ap (λ (b : Bool). if b then goes_on (g x r) (λ z. each test g z rs) else Read x (r ∷ rs)) t
 
-reads_elem : (f : Field) (ops : OperatorList) (name vec : List ℕ) (weight : ℤ) (trees : List Tree) (number : ℕ) (rest : List Line)
-    → IsGoodElem f name vec weight → IsNew name trees
-    → each is_tree_part (tree_part f ops) trees (line_at number (elem_text name vec weight) ∷ rest) ≡ each is_tree_part (tree_part f ops) (Elem name vec weight ∷ trees) rest
-reads_elem f ops name vec weight trees number rest good new =
+reads_elem : (most : ℕ) (f : Field) (ops : OperatorList) (name vec : List ℕ) (weight : ℤ) (trees : List Tree) (number : ℕ) (rest : List Line)
+    → IsGoodElem f name vec weight → IsNew most name trees
+    → each is_tree_part (tree_part most f ops) trees (line_at number (elem_text name vec weight) ∷ rest) ≡ each is_tree_part (tree_part most f ops) (Elem name vec weight ∷ trees) rest
+reads_elem most f ops name vec weight trees number rest good new =
     let r = line_at number (elem_text name vec weight) in
     let v = vector_text vec in
     let w = signed_decimal weight in
     let e = tokens_spaced (codes "elem") (name ∷ v ∷ w ∷ []) (elem_are_words name vec weight good.named good.light) in
-    each_passes is_tree_part (tree_part f ops) trees (Elem name vec weight ∷ trees) r rest (elem_is_part r (name ∷ v ∷ w ∷ []) e)
-    (elem_read f ops trees r name vec weight v w e good.named (vector_of_text f vec v (record { digits = good.digits; short = omega (arith, good.short); text = refl })) (i64_back weight good.light)
+    each_passes is_tree_part (tree_part most f ops) trees (Elem name vec weight ∷ trees) r rest (elem_is_part r (name ∷ v ∷ w ∷ []) e)
+    (elem_read most f ops trees r name vec weight v w e good.named (vector_of_text f vec v (record { digits = good.digits; short = omega (arith, good.short); text = refl })) (i64_back weight good.light)
     (le-leb (length vec) 6 good.short) (le-leb (nat_abs weight) most_weight good.light) new)
 
-reads_void : (f : Field) (ops : OperatorList) (name : List ℕ) (t : ℕ) (trees : List Tree) (number : ℕ) (rest : List Line)
-    → (is_name name ≡ true) × (t ≤ 6) → IsNew name trees
-    → each is_tree_part (tree_part f ops) trees (line_at number (void_text name t) ∷ rest) ≡ each is_tree_part (tree_part f ops) (Void name t ∷ trees) rest
-reads_void f ops name t trees number rest good new =
+reads_void : (most : ℕ) (f : Field) (ops : OperatorList) (name : List ℕ) (t : ℕ) (trees : List Tree) (number : ℕ) (rest : List Line)
+    → (is_name name ≡ true) × (t ≤ 6) → IsNew most name trees
+    → each is_tree_part (tree_part most f ops) trees (line_at number (void_text name t) ∷ rest) ≡ each is_tree_part (tree_part most f ops) (Void name t ∷ trees) rest
+reads_void most f ops name t trees number rest good new =
     let r = line_at number (void_text name t) in
     let e = tokens_spaced (codes "void") (name ∷ decimal t ∷ []) (void_are_words name t good.0 good.1) in
-    each_passes is_tree_part (tree_part f ops) trees (Void name t ∷ trees) r rest (void_is_part r (name ∷ decimal t ∷ []) e)
-    (void_read f ops trees r name t (decimal t) e good.0 (u32_back t good.1) (le-leb t 6 good.1) new)
+    each_passes is_tree_part (tree_part most f ops) trees (Void name t ∷ trees) r rest (void_is_part r (name ∷ decimal t ∷ []) e)
+    (void_read most f ops trees r name t (decimal t) e good.0 (u32_back t good.1) (le-leb t 6 good.1) new)
 
-reads_join : (f : Field) (ops : OperatorList) (name : List ℕ) (op : Op) (left right : Tree) (trees : List Tree) (number : ℕ) (rest : List Line)
+reads_join : (most : ℕ) (f : Field) (ops : OperatorList) (name : List ℕ) (op : Op) (left right : Tree) (trees : List Tree) (number : ℕ) (rest : List Line)
     → IsGoodJoin name op left right → op_named name ops ≡ Some (record { f = f; op = op })
-    → each is_tree_part (tree_part f ops) (right ∷ left ∷ trees) (line_at number (join_text name) ∷ rest) ≡ each is_tree_part (tree_part f ops) (Join name op left right ∷ trees) rest
-reads_join f ops name op left right trees number rest good held =
+    → each is_tree_part (tree_part most f ops) (right ∷ left ∷ trees) (line_at number (join_text name) ∷ rest) ≡ each is_tree_part (tree_part most f ops) (Join name op left right ∷ trees) rest
+reads_join most f ops name op left right trees number rest good held =
     let r = line_at number (join_text name) in
     let e = tokens_spaced (codes "join") (name ∷ []) (join_are_words name good.named) in
-    each_passes is_tree_part (tree_part f ops) (right ∷ left ∷ trees) (Join name op left right ∷ trees) r rest (join_is_part r (name ∷ []) e)
-    (join_read f ops trees r name (record { f = f; op = op }) left right e good.named held good.first good.second good.shallow)
+    each_passes is_tree_part (tree_part most f ops) (right ∷ left ∷ trees) (Join name op left right ∷ trees) r rest (join_is_part r (name ∷ []) e)
+    (join_read most f ops trees r name (record { f = f; op = op }) left right e good.named held good.first good.second good.shallow)
 
 join_lines_at : (name : List ℕ) (xs ys : List (List ℕ)) (number : ℕ) (rest : List Line)
     → lines_at number (xs ++ (ys ++ join_text name ∷ [])) ++ rest
@@ -203,47 +210,47 @@ join_lines_at name xs ys number rest =
     ∙ ap (λ (ls : List Line). lines_at number xs ++ ls) (append_assoc (lines_at (number + length xs) ys) last rest)
 
 -- after the lines of a tree, the tree stands before those that stood there
-pub reads_tree : (f : Field) (ops : OperatorList) (tree : Tree) (trees : List Tree) (number : ℕ) (rest : List Line)
-    → IsValidTree f tree → HoldsJoins f ops tree → IsApart tree trees
-    → each is_tree_part (tree_part f ops) trees (lines_at number (node_lines tree) ++ rest) ≡ each is_tree_part (tree_part f ops) (tree ∷ trees) rest
+pub reads_tree : (most : ℕ) (f : Field) (ops : OperatorList) (tree : Tree) (trees : List Tree) (number : ℕ) (rest : List Line)
+    → IsValidTree f tree → HoldsJoins f ops tree → IsApart most tree trees
+    → each is_tree_part (tree_part most f ops) trees (lines_at number (node_lines tree) ++ rest) ≡ each is_tree_part (tree_part most f ops) (tree ∷ trees) rest
 unfolding node_lines
-reads_tree f ops (Elem name vec weight) trees number rest v j a =
-    reads_elem f ops name vec weight trees number rest (elem_good f name vec weight v) (elem_new name vec weight trees a)
-reads_tree f ops (Void name t) trees number rest v j a = reads_void f ops name t trees number rest (void_good f name t v) (void_new name t trees a)
-reads_tree f ops (Join name op left right) trees number rest v j a =
+reads_tree most f ops (Elem name vec weight) trees number rest v j a =
+    reads_elem most f ops name vec weight trees number rest (elem_good f name vec weight v) (elem_new most name vec weight trees a)
+reads_tree most f ops (Void name t) trees number rest v j a = reads_void most f ops name t trees number rest (void_good f name t v) (void_new most name t trees a)
+reads_tree most f ops (Join name op left right) trees number rest v j a =
     let held = join_held f ops name op left right j in
     let middle = number + length (node_lines left) in
     let last : List Line = line_at (middle + length (node_lines right)) (join_text name) ∷ rest in
-    let part = tree_part f ops in
+    let part = tree_part most f ops in
     ap (each is_tree_part part trees) (join_lines_at name (node_lines left) (node_lines right) number rest)
-    ∙ reads_tree f ops left trees number (lines_at middle (node_lines right) ++ last) (valid_left f name op left right v) held.1 (left_apart name op left right trees a)
-    ∙ reads_tree f ops right (left ∷ trees) middle last (valid_right f name op left right v) held.2 (right_apart name op left right trees v.different a)
-    ∙ reads_join f ops name op left right trees (middle + length (node_lines right)) rest (join_good f name op left right v) held.0
+    ∙ reads_tree most f ops left trees number (lines_at middle (node_lines right) ++ last) (valid_left f name op left right v) held.1 (left_apart most name op left right trees a)
+    ∙ reads_tree most f ops right (left ∷ trees) middle last (valid_right f name op left right v) held.2 (right_apart most name op left right trees v.different a)
+    ∙ reads_join most f ops name op left right trees (middle + length (node_lines right)) rest (join_good f name op left right v) held.0
 
 -- ---- the whole text
 
-alone : (f : Field) (tree : Tree) → IsValidTree f tree → IsApart tree []
-alone f tree v = record { apart = λ x e. refl; room = omega (arith, v.few) }
+alone : (most : ℕ) (f : Field) (tree : Tree) → IsValidTree f tree → length (leaf_names tree) ≤ most → IsApart most tree []
+alone most f tree v few = record { apart = λ x e. refl; few = omega (arith, v.few); room = omega (arith, few) }
 
 reads_end : (tree : Tree) (number : ℕ) → and_then (Read (tree ∷ []) (line_at number (codes "end") ∷ [])) (λ all. line (end_line all)) ≡ Read (tree, number) []
 reads_end tree number =
     let r = line_at number (codes "end") in
     ap (λ (res : Result (Tree × ℕ) Refusal). now res []) (end_read tree r (tokens_spaced (codes "end") [] (end_is_word, tt)))
 
-pub written_is_read : (f : Field) (ops : OperatorList) (tree : Tree) → IsValidTree f tree → HoldsJoins f ops tree
-    → tree_lines f ops [] (lines (tree_text tree)) ≡ Read (tree, nodes tree + 1) []
+pub written_is_read : (most : ℕ) (f : Field) (ops : OperatorList) (tree : Tree) → IsValidTree f tree → length (leaf_names tree) ≤ most → HoldsJoins f ops tree
+    → tree_lines most f ops [] (lines (tree_text tree)) ≡ Read (tree, nodes tree + 1) []
 unfolding tree_text tree_lines
-written_is_read f ops tree v j =
+written_is_read most f ops tree v room j =
     let ls = node_lines tree in
     let end : List (List ℕ) = codes "end" ∷ [] in
     let last = line_at (1 + length ls) (codes "end") in
     let few : length (ls ++ end) ≤ 1000000 = omega (arith, length-append ls end, node_count tree, few_nodes f tree v) in
-    let part = tree_part f ops in
+    let part = tree_part most f ops in
     let finish : List Tree → List Line → Reading (Tree × ℕ) = λ (all : List Tree). line (end_line all) in
     ap (λ (rs : List Line). and_then (each is_tree_part part [] rs) finish)
     (lines_of_text (ls ++ end) (plain_both ls end (plain_nodes f tree v) (end_plain, tt)) few ∙ lines_at_both 1 ls end)
     ∙ ap (λ (reading : Reading (List Tree)). and_then reading finish)
-    (reads_tree f ops tree [] 1 (last ∷ []) v j (alone f tree v)
+    (reads_tree most f ops tree [] 1 (last ∷ []) v j (alone most f tree v room)
     ∙ each_stops is_tree_part part (tree ∷ []) last [] (end_is_no_part last (tokens_spaced (codes "end") [] (end_is_word, tt))))
     ∙ reads_end tree (1 + length ls)
     ∙ ap (λ (k : ℕ). Read (tree, k) []) {x = 1 + length ls} {y = nodes tree + 1} (omega (arith, node_count tree))

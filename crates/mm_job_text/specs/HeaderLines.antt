@@ -41,29 +41,26 @@ field_line r = do
   q ← found (u32_of t) (refusal.Syntax r.number)
   found (field_of q) (refusal.Field r.number)
 
--- The most names, and the most rows.
-abbrev pub most_elements : ℕ
-most_elements = 8192
-
+-- The most rows of a text.
 abbrev pub most_rows : ℕ
 most_rows = 4096
 
--- A name more, in the line with number n.
-abbrev pub with_name : ℕ → List (List ℕ) → List ℕ → Result (List (List ℕ)) Refusal
-with_name n names name = do
+-- A name more, in the line with number n of a text that has at most so many.
+abbrev pub with_name : (most n : ℕ) → List (List ℕ) → List ℕ → Result (List (List ℕ)) Refusal
+with_name most n names name = do
   require (not (is_one_of name names)) (refusal.Taken name)
-  require (nat_lt (length names) most_elements) (refusal.Over limit.Elements n)
+  require (nat_lt (length names) most) (refusal.Over limit.Elements n)
   Ok (names ++ name ∷ [])
 
-abbrev pub with_names : ℕ → List (List ℕ) → List (List ℕ) → Result (List (List ℕ)) Refusal
-with_names n names [] = Ok names
-with_names n names (t ∷ ts) = with_name n names t >>= λ more. with_names n more ts
+abbrev pub with_names : (most n : ℕ) → List (List ℕ) → List (List ℕ) → Result (List (List ℕ)) Refusal
+with_names most n names [] = Ok names
+with_names most n names (t ∷ ts) = with_name most n names t >>= λ more. with_names most n more ts
 
--- `elements NAME ..`, after these names
-unfoldable pub elements_line : List (List ℕ) → Line → Result (List (List ℕ)) Refusal
-elements_line names r = do
+-- `elements NAME ..`, after these names, of which there are at most so many
+unfoldable pub elements_line : ℕ → List (List ℕ) → Line → Result (List (List ℕ)) Refusal
+elements_line most names r = do
   require (list_all is_name (args r)) (refusal.Syntax r.number)
-  with_names r.number names (args r)
+  with_names most r.number names (args r)
 
 -- `row DIGITS`, with a digit for each of so many elements, after these rows
 unfoldable pub row_line : Field → ℕ → List (List ℕ) → Line → Result (List (List ℕ)) Refusal

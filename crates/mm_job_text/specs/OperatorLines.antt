@@ -70,8 +70,8 @@ shown f t refused = do
   Ok (record { name = t.name; t1 = t1; t2 = t2; t3 = t3; c = c; g1 = g1; g2 = g2; g3 = g3 })
 
 -- `op NAME T1 T2 T3 C G1 G2`, in format 2 with G3
-unfoldable pub operator_line : Format → Field → Line → Result OperatorLine Refusal
-operator_line version f r = do
+unfoldable pub operator_fields : Format → Field → Line → Result OperatorLine Refusal
+operator_fields version f r = do
   t ← found (operator_tokens version (args r)) (refusal.Syntax r.number)
   shown f t (refusal.Syntax r.number)
 
@@ -108,7 +108,7 @@ added n ops name op = unless (table_refusal n name (refusal_of name ops)) >> Ok 
 -- The name and the operator of an `op` line.
 unfoldable pub operator_line : Format → Field → Line → Result (List ℕ × OpValue) Refusal
 operator_line version f r = do
-  w ← operator_line version f r
+  w ← operator_fields version f r
   unless (operator_refusal r.number (fault_of f (operator_of w)))
   Ok (w.name, record { f = f; op = operator_of w })
 

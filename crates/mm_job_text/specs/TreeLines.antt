@@ -1,16 +1,19 @@
 -- The lines of a tree. The trees that are not joined yet stand with the last one first.
-use Rattle.std.specs.Prelude.{ℕ, nat_abs, Bool, not, ◌||◌, ◌==◌, nat_lt, List, [], ◌∷◌, length, flat_map, codes, Option, Some, None, Ok, if◌then◌else◌}
+use Rattle.std.specs.Prelude.{ℕ, nat_abs, Bool, ◌||◌, nat_lt, List, [], ◌∷◌, length, codes, Option, Some, None, Ok, if◌then◌else◌}
 use Rattle.std.specs.declared.result.Result.{Result}
 use Rattle.mm_base.specs.Names.{is_name}
 use Rattle.mm_field.specs.declared.Field.{Field}
 use Rattle.mm_lines.specs.Numbers.{u32_of, i64_of}
 use Rattle.mm_lines.specs.declared.line.Line.{Line}
 use Rattle.mm_ops.specs.Tables.{OperatorList, op_named}
-use Rattle.mm_tree.specs.NamedTree.{Tree, boundary, depth, leaf_names, is_one_of}
-use Rattle.mm_tree.specs.NamedTree.Tree.{Elem, Void, Join}
-use Rattle.mm_tree.specs.ValidTree.{most_leaves, most_depth, most_weight}
+use Rattle.mm_tree.specs.Building.{names_in, leaf_fault, named_fault, joined_by}
+use Rattle.mm_tree.specs.NamedTree.{Tree}
+use Rattle.mm_tree.specs.NamedTree.Tree.{Elem, Void}
+use Rattle.mm_tree.specs.ValidTree.{most_weight}
+use Rattle.mm_tree.specs.declared.builder.BuildFault.{BuildFault}
+use Rattle.mm_tree.specs.declared.builder.BuildFault.TheVariants as fault
 use Rattle.mm_job_text.specs.Arguments.{args, begins, is_word, one_of, two_of, three_of}
-use Rattle.mm_job_text.specs.Checks.{◌>>=◌, ◌>>◌, require, found, within}
+use Rattle.mm_job_text.specs.Checks.{◌>>=◌, ◌>>◌, require, found, unless, within}
 use Rattle.mm_job_text.specs.DigitTexts.{vector_of}
 use Rattle.mm_job_text.specs.Readers.{Reader, each, line}
 use Rattle.mm_job_text.specs.Readers.{◌>>=◌ as ◌>>>=◌}
@@ -20,15 +23,22 @@ use Rattle.mm_job_text.specs.declared.refusal.Limit.TheVariants as limit
 use Rattle.mm_job_text.specs.declared.refusal.Refusal.{Refusal}
 use Rattle.mm_job_text.specs.declared.refusal.Refusal.TheVariants as refusal
 
--- The names of all leaves of some trees.
-abbrev pub names_in : List Tree → List (List ℕ)
-names_in trees = flat_map leaf_names trees
+-- The refusal of the line with number n, by what is at fault with the leaf or the join that it adds.
+abbrev pub tree_refusal : ℕ → Option BuildFault → Option Refusal
+tree_refusal n None = None
+tree_refusal n (Some (fault.UnknownOp name)) = Some (refusal.Unknown name)
+tree_refusal n (Some fault.TooFew) = Some (refusal.Trees n)
+tree_refusal n (Some (fault.Boundary want have)) = Some (refusal.Boundary want have)
+tree_refusal n (Some (fault.NameTaken name)) = Some (refusal.Taken name)
+tree_refusal n (Some fault.TooManyLeaves) = Some (refusal.Over limit.Leaves n)
+tree_refusal n (Some fault.TooDeep) = Some (refusal.Over limit.Depth n)
+tree_refusal n (Some fault.NoMemory) = None
 
--- A leaf more, in the line with number n.
-abbrev pub with_leaf : ℕ → List Tree → List ℕ → Tree → Result (List Tree) Refusal
-with_leaf n trees name leaf = do
-  require (not (is_one_of name (names_in trees))) (refusal.Taken name)
-  require (nat_lt (length (names_in trees)) most_leaves) (refusal.Over limit.Leaves n)
+-- A leaf more, in the line with number n of a text that has at most so many leaves.
+abbrev pub with_leaf : (most n : ℕ) → List Tree → List ℕ → Tree → Result (List Tree) Refusal
+with_leaf most n trees name leaf = do
+  unless (tree_refusal n (leaf_fault name trees))
+  require (nat_lt (length (names_in trees)) most) (refusal.Over limit.Leaves n)
   Ok (leaf ∷ trees)
 
 -- The most digits of a leaf's boundary.
@@ -36,8 +46,8 @@ abbrev pub most_boundary : ℕ
 most_boundary = 6
 
 -- `elem NAME VECTOR WEIGHT`
-unfoldable pub elem_words : Field → Line → Result ElementLine Refusal
-elem_words f r = do
+unfoldable pub elem_fields : Field → Line → Result ElementLine Refusal
+elem_fields f r = do
   t ← found (three_of (args r)) (refusal.Syntax r.number)
   require (is_name t.0) (refusal.Syntax r.number)
   vec ← found (vector_of f t.1) (refusal.Syntax r.number)
@@ -46,33 +56,28 @@ elem_words f r = do
   within (nat_abs weight) most_weight limit.Weight r.number
   Ok (record { name = t.0; vec = vec; weight = weight })
 
-unfoldable pub elem_line : Field → List Tree → Line → Result (List Tree) Refusal
-elem_line f trees r = do
-  w ← elem_words f r
-  with_leaf r.number trees w.name (Elem w.name w.vec w.weight)
+unfoldable pub elem_line : ℕ → Field → List Tree → Line → Result (List Tree) Refusal
+elem_line most f trees r = do
+  w ← elem_fields f r
+  with_leaf most r.number trees w.name (Elem w.name w.vec w.weight)
 
 -- `void NAME T`
-unfoldable pub void_words : Line → Result VoidLine Refusal
-void_words r = do
+unfoldable pub void_fields : Line → Result VoidLine Refusal
+void_fields r = do
   t ← found (two_of (args r)) (refusal.Syntax r.number)
   require (is_name t.0) (refusal.Syntax r.number)
   b ← found (u32_of t.1) (refusal.Syntax r.number)
   within b most_boundary limit.Boundary r.number
   Ok (record { name = t.0; t = b })
 
-unfoldable pub void_line : List Tree → Line → Result (List Tree) Refusal
-void_line trees r = do
-  w ← void_words r
-  with_leaf r.number trees w.name (Void w.name w.t)
-
--- The last two trees, the earlier one first, and the others.
-abbrev pub last_two : List Tree → Option (Tree × Tree × List Tree)
-last_two (right ∷ left ∷ trees) = Some (left, right, trees)
-last_two trees = None
+unfoldable pub void_line : ℕ → List Tree → Line → Result (List Tree) Refusal
+void_line most trees r = do
+  w ← void_fields r
+  with_leaf most r.number trees w.name (Void w.name w.t)
 
 -- `join NAME`
-unfoldable pub join_words : Line → Result (List ℕ) Refusal
-join_words r = do
+unfoldable pub join_fields : Line → Result (List ℕ) Refusal
+join_fields r = do
   name ← found (one_of (args r)) (refusal.Syntax r.number)
   require (is_name name) (refusal.Syntax r.number)
   Ok name
@@ -80,23 +85,19 @@ join_words r = do
 -- The last tree becomes the right child, and the one before it the left child.
 unfoldable pub join_line : OperatorList → List Tree → Line → Result (List Tree) Refusal
 join_line ops trees r = do
-  name ← join_words r
-  op ← found (op_named name ops) (refusal.Unknown name)
-  two ← found (last_two trees) (refusal.Trees r.number)
-  require (op.op.t1 == boundary two.0) (refusal.Boundary op.op.t1 (boundary two.0))
-  require (op.op.t2 == boundary two.1) (refusal.Boundary op.op.t2 (boundary two.1))
-  within (depth (Join name op.op two.0 two.1)) most_depth limit.Depth r.number
-  Ok (Join name op.op two.0 two.1 ∷ two.2)
+  name ← join_fields r
+  unless (tree_refusal r.number (named_fault name (op_named name ops) trees))
+  Ok (joined_by name (op_named name ops) trees)
 
 -- Whether a line is one of a tree, its `end` apart.
 abbrev pub is_tree_part : Line → Bool
 is_tree_part r = begins (codes "elem") r || begins (codes "void") r || begins (codes "join") r
 
--- The trees after one line of a tree more.
-abbrev pub tree_part : Field → OperatorList → List Tree → Line → Result (List Tree) Refusal
-tree_part f ops trees r =
-    if begins (codes "elem") r then elem_line f trees r
-    else if begins (codes "void") r then void_line trees r
+-- The trees after one line more of a tree with at most so many leaves.
+abbrev pub tree_part : ℕ → Field → OperatorList → List Tree → Line → Result (List Tree) Refusal
+tree_part most f ops trees r =
+    if begins (codes "elem") r then elem_line most f trees r
+    else if begins (codes "void") r then void_line most trees r
     else join_line ops trees r
 
 abbrev pub the_one : List Tree → Option Tree
@@ -110,6 +111,6 @@ end_line trees r = do
   tree ← found (the_one trees) (refusal.Trees r.number)
   Ok (tree, r.number)
 
--- The lines of a tree up to its `end`, after these trees.
-unfoldable pub tree_lines : Field → OperatorList → List Tree → Reader (Tree × ℕ)
-tree_lines f ops trees = each is_tree_part (tree_part f ops) trees >>>= λ all. line (end_line all)
+-- The lines of a tree with at most so many leaves up to its `end`, after these trees.
+unfoldable pub tree_lines : ℕ → Field → OperatorList → List Tree → Reader (Tree × ℕ)
+tree_lines most f ops trees = each is_tree_part (tree_part most f ops) trees >>>= λ all. line (end_line all)

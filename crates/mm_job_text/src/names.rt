@@ -12,17 +12,20 @@ use mm_base::Name;
 use mm_lines::{Line, Tokens};
 use std::alloc::Global;
 
-/// The most names of a text.
-const MAX_NAMES: usize = 8192;
-
-/// Adds a name, where it is new and there is room.
-fn add_name(alloc: Global, number: u32, names: &mut NameSet, name: Name) -> Result<(), Stop>
-    ensures { Becomes result names.new (with_name number names.old name) }
+/// Adds a name, where it is new and there are fewer than `most`.
+fn add_name(
+    alloc: Global,
+    most: usize,
+    number: u32,
+    names: &mut NameSet,
+    name: Name,
+) -> Result<(), Stop>
+    ensures { Becomes result names.new (with_name most number names.old name) }
 {
     if names.contains(&name) {
         return Err(Stop::Refused(Refusal::Taken(name)));
     }
-    if names.len() >= MAX_NAMES {
+    if names.len() >= most {
         return Err(Stop::Refused(Refusal::Over(Limit::Elements, number)));
     }
     names.insert(alloc, name)?;
@@ -43,30 +46,37 @@ fn are_names(tokens: Tokens<'_>) -> bool
 
 fn add_names(
     alloc: Global,
+    most: usize,
     number: u32,
     names: &mut NameSet,
     tokens: Tokens<'_>,
 ) -> Result<(), Stop>
     requires { list_all is_name tokens ≡ true }
-    ensures { Becomes result names.new (with_names number names.old tokens.entry) }
+    ensures { Becomes result names.new (with_names most number names.old tokens.entry) }
 {
     let mut tokens = tokens;
     'tokens: while let Some(token) = tokens.next() {
         let Some(name) = Name::read(token) else {
             return Err(Stop::Refused(Refusal::Syntax(number)));
         };
-        add_name(alloc, number, names, name)?;
+        add_name(alloc, most, number, names, name)?;
     }
     Ok(())
 }
 
-/// Adds the names of an `elements` line: all of them, or none where one is no name, or those before the one that is refused.
+/// Adds the names of an `elements` line to a text that has at most `most` names: all of them, or none where one is no name, or those
+/// before the one that is refused.
 #[tactic(auto, unfolding(crate::specs::HeaderLines::elements_line))]
-pub fn add_elements(alloc: Global, names: &mut NameSet, line: &Line) -> Result<(), Stop>
-    ensures { Becomes result names.new (elements_line names.old line.now) }
+pub fn add_elements(
+    alloc: Global,
+    most: usize,
+    names: &mut NameSet,
+    line: &Line,
+) -> Result<(), Stop>
+    ensures { Becomes result names.new (elements_line most names.old line.now) }
 {
     if !are_names(args(line)) {
         return Err(Stop::Refused(Refusal::Syntax(line.number)));
     }
-    add_names(alloc, line.number, names, args(line))
+    add_names(alloc, most, line.number, names, args(line))
 }

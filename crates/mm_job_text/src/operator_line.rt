@@ -1,6 +1,6 @@
 //! The lines of operators, each by itself.
 ghost use Rattle.std.specs.Prelude.{◌≡◌, MatchOption, Some, None, option_copied, IfOk};
-ghost use Rattle.mm_job_text.specs.OperatorLines.{HasDigits, HasThirdDigits, eight_of, operator_tokens, operator_line, seven_of, shown, third_matrix};
+ghost use Rattle.mm_job_text.specs.OperatorLines.{HasDigits, HasThirdDigits, eight_of, operator_fields, operator_tokens, seven_of, shown, third_matrix};
 ghost use Rattle.mm_job_text.specs.OperatorTokens.{tokens_of};
 
 use crate::arguments::args;
@@ -175,9 +175,9 @@ fn third_matrix(f: Field, written: Option<&[u8]>, refused: Refusal) -> Result<Th
 }
 
 /// `op NAME T1 T2 T3 C G1 G2`, in format 2 with G3
-#[tactic(auto, unfolding(crate::specs::OperatorLines::operator_line))]
+#[tactic(auto, unfolding(crate::specs::OperatorLines::operator_fields))]
 pub fn read_operator(format: Format, f: Field, line: &Line) -> Result<OperatorLine, Refusal>
-    ensures shown { result ≡ operator_line format f line.now }
+    ensures shown { result ≡ operator_fields format f line.now }
     ensures digits { IfOk result (λ w. HasDigits f w) }
 {
     let refused = Refusal::Syntax(line.number);

@@ -14,9 +14,9 @@ use mm_ops::{Op, OpFault, OpTable, OpTableFault};
 use std::alloc::Global;
 
 /// The operator of these numbers and matrices, or the first fault that it has.
-fn operator(f: Field, words: OperatorLine) -> Result<Op, OpFault>
-    requires { HasDigits f words }
-    ensures { Makes f (operator_of words) result }
+fn operator(f: Field, fields: OperatorLine) -> Result<Op, OpFault>
+    requires { HasDigits f fields }
+    ensures { Makes f (operator_of fields) result }
 {
     let OperatorLine {
         name: _,
@@ -27,25 +27,10 @@ fn operator(f: Field, words: OperatorLine) -> Result<Op, OpFault>
         g1,
         g2,
         g3,
-    } = words;
+    } = fields;
     match g3 {
         ThirdMatrix::Units => Op::new(f, t1, t2, t3, c, g1, g2),
         ThirdMatrix::Written(g3) => Op::with_boundary(f, t1, t2, t3, c, g1, g2, g3),
-    }
-}
-
-/// The operator that the words show, or the refusal of its first fault.
-fn valid_operator(f: Field, number: u32, words: OperatorLine) -> Result<Op, Refusal>
-    requires { HasDigits f words }
-    ensures { MatchResult result
-        (λ op. (fault_of f (operator_of words) ≡ None) × (op ≡ record { f = f; op = operator_of words }))
-        (λ refusal. operator_refusal number (fault_of f (operator_of words)) ≡ Some refusal) }
-{
-    match operator(f, words) {
-        Ok(op) => Ok(op),
-        Err(OpFault::Bound) => Err(Refusal::Over(Limit::Bounds, number)),
-        Err(OpFault::Shape) => Err(Refusal::Shape(number)),
-        Err(OpFault::Dependent(k)) => Err(Refusal::Dependent(number, k)),
     }
 }
 
@@ -56,15 +41,19 @@ struct NamedOp {
     op: Op,
 }
 
-/// The name with its operator.
-fn named(name: Name, op: Result<Op, Refusal>) -> Result<NamedOp, Refusal>
+/// The operator that the fields show under its name, or the refusal of its first fault.
+fn named_operator(f: Field, number: u32, fields: OperatorLine) -> Result<NamedOp, Refusal>
+    requires { HasDigits f fields }
     ensures { MatchResult result
-        (λ named. (op ≡ Ok named.op) × (named.name ≡ name))
-        (λ refusal. op ≡ Err refusal) }
+        (λ named. (fault_of f (operator_of fields) ≡ None) × (named.op ≡ record { f = f; op = operator_of fields }) × (named.name ≡ fields.name))
+        (λ refusal. operator_refusal number (fault_of f (operator_of fields)) ≡ Some refusal) }
 {
-    match op {
+    let name = fields.name;
+    match operator(f, fields) {
         Ok(op) => Ok(NamedOp { name, op }),
-        Err(refusal) => Err(refusal),
+        Err(OpFault::Bound) => Err(Refusal::Over(Limit::Bounds, number)),
+        Err(OpFault::Shape) => Err(Refusal::Shape(number)),
+        Err(OpFault::Dependent(k)) => Err(Refusal::Dependent(number, k)),
     }
 }
 
@@ -80,16 +69,6 @@ fn add(alloc: Global, number: u32, ops: &mut OpTable, name: Name, op: Op) -> Res
     }
 }
 
-/// The operator that the words show under its name, or the refusal of its first fault.
-fn named_operator(f: Field, number: u32, words: OperatorLine) -> Result<NamedOp, Refusal>
-    requires { HasDigits f words }
-    ensures { MatchResult result
-        (λ named. (fault_of f (operator_of words) ≡ None) × (named.op ≡ record { f = f; op = operator_of words }) × (named.name ≡ words.name))
-        (λ refusal. operator_refusal number (fault_of f (operator_of words)) ≡ Some refusal) }
-{
-    named(words.name, valid_operator(f, number, words))
-}
-
 /// The operator of an `op` line.
 #[tactic(auto, unfolding(crate::specs::OperatorLines::operator_line))]
 fn read_valid(format: Format, f: Field, line: &Line) -> Result<NamedOp, Refusal>
@@ -98,7 +77,7 @@ fn read_valid(format: Format, f: Field, line: &Line) -> Result<NamedOp, Refusal>
         (λ refusal. operator_line format f line.now ≡ Err refusal) }
 {
     match read_operator(format, f, line) {
-        Ok(words) => named_operator(f, line.number, words),
+        Ok(fields) => named_operator(f, line.number, fields),
         Err(refusal) => Err(refusal),
     }
 }

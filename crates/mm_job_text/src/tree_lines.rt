@@ -1,6 +1,6 @@
 //! The lines of a tree, each by itself.
 ghost use Rattle.std.specs.Prelude.{◌≡◌};
-ghost use Rattle.mm_job_text.specs.TreeLines.{elem_words, is_tree_part, join_words, void_words};
+ghost use Rattle.mm_job_text.specs.TreeLines.{elem_fields, is_tree_part, join_fields, void_fields};
 
 use crate::arguments::{args, begins, one, three, two};
 use crate::digits::read_vector;
@@ -37,9 +37,9 @@ pub struct VoidLine {
 }
 
 /// `elem NAME VECTOR WEIGHT`
-#[tactic(auto, unfolding(crate::specs::TreeLines::elem_words))]
+#[tactic(auto, unfolding(crate::specs::TreeLines::elem_fields))]
 pub fn read_element(f: Field, line: &Line) -> Result<ElementLine, Refusal>
-    ensures { result ≡ elem_words f line.now }
+    ensures { result ≡ elem_fields f line.now }
 {
     let Some((name, vec, weight)) = three(args(line)) else {
         return Err(Refusal::Syntax(line.number));
@@ -63,9 +63,9 @@ pub fn read_element(f: Field, line: &Line) -> Result<ElementLine, Refusal>
 }
 
 /// `void NAME T`
-#[tactic(auto, unfolding(crate::specs::TreeLines::void_words))]
+#[tactic(auto, unfolding(crate::specs::TreeLines::void_fields))]
 pub fn read_void(line: &Line) -> Result<VoidLine, Refusal>
-    ensures { result ≡ void_words line.now }
+    ensures { result ≡ void_fields line.now }
 {
     let Some((name, t)) = two(args(line)) else {
         return Err(Refusal::Syntax(line.number));
@@ -83,9 +83,9 @@ pub fn read_void(line: &Line) -> Result<VoidLine, Refusal>
 }
 
 /// `join NAME`
-#[tactic(auto, unfolding(crate::specs::TreeLines::join_words))]
+#[tactic(auto, unfolding(crate::specs::TreeLines::join_fields))]
 pub fn read_join(line: &Line) -> Result<Name, Refusal>
-    ensures { result ≡ join_words line.now }
+    ensures { result ≡ join_fields line.now }
 {
     let Some(name) = one(args(line)) else {
         return Err(Refusal::Syntax(line.number));

@@ -8,12 +8,12 @@ use Rattle.mm_field.proofs.Tables.{times-zero}
 use Rattle.mm_field.proofs.VectorLemmas.{opposite-vector_sum, IsVector-multiple, IsVector-vector_sum}
 use Rattle.mm_field.proofs.CombinationLemmas.{IsVector-combination, first_row, other_rows}
 use Rattle.mm_field.proofs.PartLemmas.{combination-map}
-use Rattle.mm_linear.specs.Meets.{MeetTrivially}
+use Rattle.mm_linear.specs.Sums.{MeetTrivially}
 use Rattle.mm_linear.specs.ReducedEchelon.{Leads}
 use Rattle.mm_linear.proofs.BasisLemmas.{ended}
 use Rattle.mm_linear.proofs.EchelonLemmas.{combination_entry_zero, zero_not_one}
 use Rattle.mm_linear.proofs.IndependenceLemmas.{independent_more}
-use Rattle.mm_linear.proofs.LeafLemmas.{none_independent}
+use Rattle.mm_linear.proofs.IndependenceLemmas.{none_independent}
 use Rattle.mm_linear.proofs.PivotLemmas.{last-ended, late_rows, entry_of_cut}
 use Rattle.mm_linear.proofs.SubspaceLemmas.{from_sum}
 use Rattle.mm_linear.proofs.SubspaceTests.{IsLinear, IsLinear-times_matrix}

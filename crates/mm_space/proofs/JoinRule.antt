@@ -6,7 +6,7 @@ use Rattle.mm_field.specs.declared.Field.{Field}
 use Rattle.mm_field.specs.Vectors.{times_matrix, IsVector, AreVectors, InSpan, SameRowSpace}
 use Rattle.mm_field.proofs.CombinationLemmas.{InSpan-within, IsVector-combination}
 use Rattle.mm_linear.specs.Decide.{is_in_span, meets_in_zero}
-use Rattle.mm_linear.specs.Meets.{MeetTrivially}
+use Rattle.mm_linear.specs.Sums.{MeetTrivially}
 use Rattle.mm_linear.specs.Subspaces.{preimage}
 use Rattle.mm_linear.proofs.MeetTest.{is_in_span_decides, meets_in_zero_decides}
 use Rattle.mm_linear.proofs.SumLemmas.{same_itself}

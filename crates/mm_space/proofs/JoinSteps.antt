@@ -15,7 +15,7 @@ use Rattle.mm_field.proofs.CombinationLemmas.{IsVector-combination, InSpan-withi
 use Rattle.mm_linear.specs.Decide.{is_in_span}
 use Rattle.mm_linear.specs.Echelons.{EndsAt, ZeroFrom}
 use Rattle.mm_linear.specs.ReducedEchelon.{reduced_basis}
-use Rattle.mm_linear.specs.Meets.{MeetTrivially}
+use Rattle.mm_linear.specs.Sums.{MeetTrivially}
 use Rattle.mm_linear.specs.Subspaces.{preimage}
 use Rattle.mm_linear.proofs.EchelonLemmas.{combination_entry_zero, echelon_unique}
 use Rattle.mm_linear.proofs.DecideLemmas.{echelon_of_is}
@@ -28,7 +28,7 @@ use Rattle.mm_linear.proofs.MeetTest.{is_in_span_decides}
 use Rattle.mm_linear.proofs.SubspaceLemmas.{meet_more, meet_fails}
 use Rattle.mm_linear.proofs.SubspaceTests.{IsLinear, subspace-of_rows}
 use Rattle.mm_linear.proofs.SumLemmas.{next_rows, same_more, same_itself, meet_none}
-use Rattle.mm_linear.proofs.TypeLemmas.{InSum-from_append, append_from_InSum, append_left_in, append_right_in}
+use Rattle.mm_linear.proofs.SpanLemmas.{InSum-from_append, append_from_InSum, append_left_in, append_right_in}
 use Rattle.mm_space.specs.Insertion.{IsHeld, IsInserted}
 use Rattle.mm_space.specs.JoinForms.{FormValue, HaveForm, moved, normal, no_rows, third_rows, form_rows, IsApartFrom, form_images, image_list, sum_of_images}
 use Rattle.mm_space.specs.FormView.{IsFormed, value_of}

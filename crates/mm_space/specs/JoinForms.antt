@@ -5,7 +5,7 @@ use Rattle.mm_field.specs.Vectors.{zeros, combination, times_matrix, AreVectors,
 use Rattle.mm_linear.specs.Decide.{echelon_of}
 use Rattle.mm_linear.specs.Echelons.{ZeroFrom}
 use Rattle.mm_linear.specs.Eliminate.{residue}
-use Rattle.mm_linear.specs.Meets.{MeetTrivially}
+use Rattle.mm_linear.specs.Sums.{MeetTrivially}
 use Rattle.mm_space.specs.Insertion.{IsHeld}
 use Rattle.mm_space.specs.KeyValue.{KeyValue}
 use Rattle.mm_space.specs.Preimages.{IsPreimage, tagged_rows}

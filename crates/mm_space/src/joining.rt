@@ -7,7 +7,7 @@
 ghost use Rattle.std.specs.Prelude.{◌≡◌, ◌<◌, ◌≤◌, ◌+◌, ◌-◌, ◌*◌, ◌/◌, ◌%◌, ◌^◌, ◌++◌, [], length, map, take, slice_index_or, All, true, false, replicate};
 ghost use Rattle.mm_field.specs.Vectors.{AreVectors, AreIndependent, InSpan, SameRowSpace, combination, zeros};
 ghost use Rattle.mm_linear.specs.Echelons.{EndsAt};
-ghost use Rattle.mm_linear.specs.Meets.{MeetTrivially};
+ghost use Rattle.mm_linear.specs.Sums.{MeetTrivially};
 ghost use Rattle.mm_space.specs.Insertion.{IsHeld};
 ghost use Rattle.mm_space.specs.JoinForms.{IsApartFrom, Joins, form_images, no_rows, normal};
 ghost use Rattle.mm_space.specs.KeyView.{IsReduced};

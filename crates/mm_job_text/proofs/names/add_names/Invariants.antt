@@ -7,7 +7,7 @@ use Rattle.mm_job_text.proofs.names.add_names.Given as goal
 abbrev pub invariant-tokens : goal.invariant-tokens
 invariant-tokens l = record {
   formed : list_all is_name l.tokens ≡ true;
-  same : with_names l.number l.names l.tokens ≡ with_names l.initial.number l.initial.names l.initial.tokens;
+  same : with_names l.most l.number l.names l.tokens ≡ with_names l.initial.most l.initial.number l.initial.names l.initial.tokens;
 }
 
 abbrev pub decreases-tokens : goal.decreases-tokens

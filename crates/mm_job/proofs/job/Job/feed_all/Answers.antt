@@ -5,31 +5,31 @@ use Rattle.mm_job.proofs.FeedLemmas.{on_err}
 use Rattle.mm_job.proofs.JobLemmas.{all_of_state, state_goes_on, state_refused}
 use Rattle.mm_job.proofs.job.Job.feed_all.Goals as goal
 
-pub returns-in_err-state-clause-front : goal.returns-in_err-state-clause-front
-returns-in_err-state-clause-front g c =
+pub returns-in_err-take_piece-clause-front : goal.returns-in_err-take_piece-clause-front
+returns-in_err-take_piece-clause-front g c =
     let held = g.K.Sink.held in
     on_err c.from_residual.result
     (all_of_state (λ (a b : List ℕ). GrewByFront (held c.args.out.now) (held c.take_piece.new.out) a b) c.args.piece.now c.self.inside c.args.self.now c.self.view_is c.requires.size
-    (c.in_err-state.ensures.front More))
+    (c.in_err-take_piece.ensures.front More))
 
 pub returns-then-is_refused-clause-progress : goal.returns-then-is_refused-clause-progress
 returns-then-is_refused-clause-progress g c =
-    state_refused c.args.piece.now c.self.inside c.args.self.now c.in_ok-state.state c.is_refused.result c.self.view_is c.requires.size c.in_ok-state.ensures.stands c.is_refused.ensures
+    state_refused c.args.piece.now c.self.inside c.args.self.now c.take_piece.new.state c.is_refused.result c.self.view_is c.requires.size c.in_ok-take_piece.ensures.stands c.is_refused.ensures
     c.if-is_refused.true
 
 pub returns-then-is_refused-clause-wrote : goal.returns-then-is_refused-clause-wrote
 returns-then-is_refused-clause-wrote g c =
     let held = g.K.Sink.held in
     all_of_state (λ (a b : List ℕ). Grew (held c.args.out.now) (held c.take_piece.new.out) a b) c.args.piece.now c.self.inside c.args.self.now c.self.view_is c.requires.size
-    c.in_ok-state.ensures.wrote
+    c.in_ok-take_piece.ensures.wrote
 
 pub returns-clause-progress : goal.returns-clause-progress
 returns-clause-progress g c =
-    state_goes_on c.args.piece.now c.self.inside c.args.self.now c.in_ok-state.state c.is_refused.result c.self.view_is c.requires.size c.in_ok-state.ensures.stands c.is_refused.ensures
+    state_goes_on c.args.piece.now c.self.inside c.args.self.now c.take_piece.new.state c.is_refused.result c.self.view_is c.requires.size c.in_ok-take_piece.ensures.stands c.is_refused.ensures
     c.if-is_refused.false
 
 pub returns-clause-wrote : goal.returns-clause-wrote
 returns-clause-wrote g c =
     let held = g.K.Sink.held in
     all_of_state (λ (a b : List ℕ). Grew (held c.args.out.now) (held c.take_piece.new.out) a b) c.args.piece.now c.self.inside c.args.self.now c.self.view_is c.requires.size
-    c.in_ok-state.ensures.wrote
+    c.in_ok-take_piece.ensures.wrote

@@ -1,0 +1,4 @@
+pub mod HeaderLemmas
+pub mod KeptLemmas
+mod FormulaLemmas
+mod TreeLineLemmas

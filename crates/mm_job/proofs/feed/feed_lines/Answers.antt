@@ -1,0 +1,41 @@
+use Rattle.std.proofs.Common.{◌∙◌, refl, arith}
+use Rattle.mm_job.specs.Feeding.{left}
+use Rattle.mm_job.proofs.FeedLemmas.{fed_nothing, fed_trans, front_then, on_err}
+use Rattle.mm_job.proofs.feed.feed_lines.Goals as goal
+
+pub lines-init : goal.lines-init
+lines-init g c = record {
+  kept = c.requires.kept;
+  fed = fed_nothing c.args.limit c.args.state.now (left c.args.framer.now) (g.K.Sink.held c.args.out.now);
+  later = omega arith;
+  within = c.requires.within;
+  bytes = refl;
+  ended = refl;
+}
+
+-- what was written before this turn, and then in it
+pub returns-then-not-more-clause-fed : goal.returns-then-not-more-clause-fed
+returns-then-not-more-clause-fed g c =
+    let held = g.K.Sink.held in
+    fed_trans c.args.limit c.args.state.now c.lines.state c.take_next.new.state (left c.args.framer.now) (left c.lines.framer) (left c.take_next.new.framer)
+    (held c.args.out.now) (held c.lines.out) (held c.take_next.new.out) c.lines.invariant.fed c.in_ok-more.ensures.fed
+
+pub lines-preserved : goal.lines-preserved
+lines-preserved g c =
+    let held = g.K.Sink.held in
+    record {
+      kept = c.in_ok-more.ensures.kept;
+      fed = fed_trans c.args.limit c.args.state.now c.lines.state c.take_next.new.state (left c.args.framer.now) (left c.lines.framer) (left c.take_next.new.framer)
+          (held c.args.out.now) (held c.lines.out) (held c.take_next.new.out) c.lines.invariant.fed c.in_ok-more.ensures.fed;
+      later = omega (arith, c.lines.invariant.later, c.in_ok-more.ensures.cause.later);
+      within = c.in_ok-more.ensures.within;
+      bytes = c.in_ok-more.ensures.bytes ∙ c.lines.invariant.bytes;
+      ended = c.in_ok-more.ensures.ended ∙ c.lines.invariant.ended;
+    }
+
+pub returns-in_err-more-clause-front : goal.returns-in_err-more-clause-front
+returns-in_err-more-clause-front g c =
+    let held = g.K.Sink.held in
+    on_err c.from_residual.result
+    (front_then c.args.limit c.args.state.now c.lines.state (left c.args.framer.now) (left c.lines.framer) (held c.args.out.now) (held c.lines.out) (held c.take_next.new.out)
+    c.lines.invariant.fed c.in_err-more.ensures.front)

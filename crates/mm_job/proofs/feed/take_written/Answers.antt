@@ -1,0 +1,10 @@
+use Rattle.mm_job.specs.Blocks.{written}
+use Rattle.mm_job.proofs.FeedLemmas.{front_line, on_err}
+use Rattle.mm_job.proofs.feed.take_written.Goals as goal
+
+pub returns-in_err-write_output_line-clause-front : goal.returns-in_err-write_output_line-clause-front
+returns-in_err-write_output_line-clause-front g c =
+    let held = g.K.Sink.held in
+    on_err c.from_residual-in_err-write_output_line.result
+    (front_line c.args.limit c.args.state.now c.take.new.self c.args.line.now (written c.in_ok-output_line.output_line)
+    (held c.args.out.now) (held c.write_output_line.new.out) c.in_ok-output_line.ensures.step c.in_err-write_output_line.ensures.err)

@@ -1,0 +1,228 @@
+//! A text that comes in pieces: its lines are taken one by one, and what each says is written.
+ghost use Rattle.std.specs.Prelude.{◌≡◌, ◌+◌, ◌++◌, ◌∷◌, ◌<◌, ◌≤◌, [], List, ℕ, length, true, false, IfOk, OnOk, OnErr};
+ghost use Rattle.mm_lines.specs.Lines.{most_bytes, settled};
+ghost use Rattle.mm_lines.specs.declared.line.Line.{Line as LineOf};
+ghost use Rattle.std.specs.Io.KnownBytes.{Appends};
+ghost use Rattle.mm_base.specs.Causes.{GrowsByFront};
+ghost use Rattle.mm_job.specs.Blocks.{written};
+ghost use Rattle.mm_job.specs.JobStates.{come_to, end_by, status_at};
+ghost use Rattle.mm_job.specs.Feeding.{Fed, IsWithin, left};
+ghost use Rattle.mm_job.specs.Jobs.{Grew, GrewByFront, HasJobCause};
+ghost use Rattle.mm_job.specs.Output.{Ending, More, Over, end_of, output, printed, printed_all, status_of, written_lines};
+ghost use Rattle.mm_job.specs.Standing.{IsRead, Stands, written_at};
+ghost use Rattle.mm_job.specs.Stages.{IsKeptAt, lines_from_stage};
+
+use crate::output_line::OutputLine;
+use crate::progress::JobFault;
+use crate::state::{JobState, after_step, last_output_line, status_at};
+use mm_base::{NoMemory, Sink, SinkFault, Status, Text, write_all};
+use mm_job_text::words;
+use mm_lines::{Framer, Line};
+use std::alloc::Global;
+
+/// A line as it is written.
+fn print(alloc: Global, output_line: &OutputLine) -> Result<Text, NoMemory>
+    ensures { IfOk result (λ text. text ≡ printed output_line.now) }
+{
+    let mut text = Text::new(alloc);
+    match output_line {
+        OutputLine::Says(answer) => text.append(alloc, answer.bytes())?,
+        OutputLine::Refuses(refusal) => {
+            text.append(alloc, b"refused ")?;
+            text.append(alloc, words(alloc, refusal)?.bytes())?;
+        }
+    }
+    text.append(alloc, b"\n")?;
+    Ok(text)
+}
+
+/// Writes a text.
+fn write_text<K: Sink>(text: &Text, out: &mut K) -> Result<(), JobFault>
+    ensures ok { OnOk result (Appends (K.held out.old) (K.held out.new) text.now) }
+    ensures err { OnErr result (GrowsByFront (K.held out.old) (K.held out.new) text.now) }
+    ensures cause { HasJobCause (K.faults out.old) (K.faults out.new) result }
+{
+    match write_all(out, text.bytes()) {
+        Ok(()) => Ok(()),
+        Err(SinkFault::Failed) => Err(JobFault::Write),
+        Err(SinkFault::NoMemory) => Err(JobFault::NoMemory),
+    }
+}
+
+/// Writes a line, if there is one.
+fn write_output_line<K: Sink>(
+    alloc: Global,
+    output_line: Option<OutputLine>,
+    out: &mut K,
+) -> Result<(), JobFault>
+    ensures ok { OnOk result (Appends (K.held out.old) (K.held out.new) (printed_all (written output_line))) }
+    ensures err { OnErr result (GrowsByFront (K.held out.old) (K.held out.new) (printed_all (written output_line))) }
+    ensures cause { HasJobCause (K.faults out.old) (K.faults out.new) result }
+{
+    match output_line {
+        None => Ok(()),
+        Some(output_line) => {
+            let text = print(alloc, &output_line)?;
+            write_text(&text, out)
+        }
+    }
+}
+
+/// Takes a line, and writes what it says.
+fn take_written<K: Sink>(
+    alloc: Global,
+    limit: u64,
+    state: &mut JobState,
+    line: &Line,
+    out: &mut K,
+) -> Result<(), JobFault>
+    requires kept { IsKeptAt state.old.stage }
+    ensures kept { IfOk result (λ u. IsKeptAt state.new.stage) }
+    ensures fed { OnOk result ((rs : List LineOf) → Fed limit state.old state.new (line.now ∷ rs) rs (K.held out.old) (K.held out.new)) }
+    ensures front { OnErr result ((e : Ending) (rs : List LineOf) →
+        GrowsByFront (K.held out.old) (K.held out.new) (printed_all (lines_from_stage limit state.old.stage e (line.now ∷ rs)))) }
+    ensures cause { HasJobCause (K.faults out.old) (K.faults out.new) result }
+{
+    let output_line = state.take(alloc, limit, line)?;
+    write_output_line(alloc, output_line, out)?;
+    Ok(())
+}
+
+/// Takes the next line of the stream, and writes what it says. Whether there was one.
+fn take_next<K: Sink>(
+    alloc: Global,
+    limit: u64,
+    state: &mut JobState,
+    framer: &mut Framer,
+    out: &mut K,
+) -> Result<bool, JobFault>
+    requires kept { IsKeptAt state.old.stage }
+    requires within { IsWithin framer.old }
+    ensures kept { IfOk result (λ more. IsKeptAt state.new.stage) }
+    ensures fed { OnOk result (Fed limit state.old state.new (left framer.old) (left framer.new) (K.held out.old) (K.held out.new)) }
+    ensures more { IfOk result (λ more. more ≡ true → length (left framer.new) < length (left framer.old)) }
+    ensures all { IfOk result (λ more. more ≡ false → left framer.new ≡ []) }
+    ensures front { OnErr result ((e : Ending) →
+        GrowsByFront (K.held out.old) (K.held out.new) (printed_all (lines_from_stage limit state.old.stage e (left framer.old)))) }
+    ensures cause { HasJobCause (K.faults out.old) (K.faults out.new) result }
+    ensures within { IsWithin framer.new }
+    ensures bytes { framer.new.bytes ≡ framer.old.bytes }
+    ensures ended { framer.new.ended ≡ framer.old.ended }
+{
+    let Some(line) = framer.next_line(alloc)? else {
+        return Ok(false);
+    };
+    take_written(alloc, limit, state, &line, out)?;
+    Ok(true)
+}
+
+/// Takes all lines of the stream that are closed or known to be too long, and writes what each says.
+fn feed_lines<K: Sink>(
+    alloc: Global,
+    limit: u64,
+    state: &mut JobState,
+    framer: &mut Framer,
+    out: &mut K,
+) -> Result<(), JobFault>
+    requires kept { IsKeptAt state.old.stage }
+    requires within { IsWithin framer.old }
+    ensures kept { IfOk result (λ u. IsKeptAt state.new.stage) }
+    ensures fed { OnOk result (Fed limit state.old state.new (left framer.old) (left framer.new) (K.held out.old) (K.held out.new)) }
+    ensures all { OnOk result (left framer.new ≡ []) }
+    ensures front { OnErr result ((e : Ending) →
+        GrowsByFront (K.held out.old) (K.held out.new) (printed_all (lines_from_stage limit state.old.stage e (left framer.old)))) }
+    ensures cause { HasJobCause (K.faults out.old) (K.faults out.new) result }
+    ensures within { IsWithin framer.new }
+    ensures bytes { framer.new.bytes ≡ framer.old.bytes }
+    ensures ended { framer.new.ended ≡ framer.old.ended }
+{
+    'lines: loop {
+        let more = take_next(alloc, limit, state, framer, out)?;
+        if !more {
+            return Ok(());
+        }
+    }
+}
+
+/// Writes what the end of a text says, or that it has more bytes than are used, and gives the status.
+fn end_state<K: Sink>(
+    alloc: Global,
+    state: &JobState,
+    over: bool,
+    out: &mut K,
+) -> Result<Status, JobFault>
+    ensures status { IfOk result (λ s. (limit : ℕ) → s ≡ status_at (come_to state.now.status (lines_from_stage limit state.now.stage (end_by over) []))) }
+    ensures wrote { OnOk result ((limit : ℕ) → Appends (K.held out.old) (K.held out.new) (printed_all (lines_from_stage limit state.now.stage (end_by over) []))) }
+    ensures front { OnErr result ((limit : ℕ) → GrowsByFront (K.held out.old) (K.held out.new) (printed_all (lines_from_stage limit state.now.stage (end_by over) []))) }
+    ensures cause { HasJobCause (K.faults out.old) (K.faults out.new) result }
+{
+    let output_line = last_output_line(&state.stage, over);
+    let status = after_step(state.status, &output_line);
+    write_output_line(alloc, output_line, out)?;
+    Ok(status_at(status))
+}
+
+/// Takes a piece of a text, and writes what it settles.
+pub fn take_piece<K: Sink>(
+    alloc: Global,
+    limit: u64,
+    state: &mut JobState,
+    framer: &mut Framer,
+    piece: &[u8],
+    out: &mut K,
+) -> Result<(), JobFault>
+    requires stands { Stands limit framer.old.bytes state.old }
+    requires stream { IsRead framer.old }
+    requires size { length framer.old.bytes + length piece.now ≤ most_bytes }
+    ensures stands { OnOk result (Stands limit (framer.old.bytes ++ piece.now) state.new) }
+    ensures stream { OnOk result (IsRead framer.new) }
+    ensures bytes { OnOk result (framer.new.bytes ≡ framer.old.bytes ++ piece.now) }
+    ensures wrote { OnOk result (Grew (K.held out.old) (K.held out.new) (written_at More limit framer.old.bytes) (written_at More limit (framer.old.bytes ++ piece.now))) }
+    ensures front { OnErr result ((e : Ending) → GrewByFront (K.held out.old) (K.held out.new) (written_at More limit framer.old.bytes) (written_at e limit (framer.old.bytes ++ piece.now))) }
+    ensures cause { HasJobCause (K.faults out.old) (K.faults out.new) result }
+{
+    framer.feed(alloc, piece)?;
+    feed_lines(alloc, limit, state, framer, out)
+}
+
+/// Takes the last piece that is used of a text with more bytes, and writes what it settles and that the text is too long.
+pub fn take_last<K: Sink>(
+    alloc: Global,
+    limit: u64,
+    state: &mut JobState,
+    framer: &mut Framer,
+    piece: &[u8],
+    out: &mut K,
+) -> Result<Status, JobFault>
+    requires stands { Stands limit framer.old.bytes state.old }
+    requires stream { IsRead framer.old }
+    requires size { length framer.old.bytes + length piece.now ≤ most_bytes }
+    ensures status { IfOk result (λ s. s ≡ status_of (written_lines limit Over (settled (framer.old.bytes ++ piece.now)))) }
+    ensures wrote { OnOk result (Grew (K.held out.old) (K.held out.new) (written_at More limit framer.old.bytes) (written_at Over limit (framer.old.bytes ++ piece.now))) }
+    ensures front { OnErr result (GrewByFront (K.held out.old) (K.held out.new) (written_at More limit framer.old.bytes) (written_at Over limit (framer.old.bytes ++ piece.now))) }
+    ensures cause { HasJobCause (K.faults out.old) (K.faults out.new) result }
+{
+    take_piece(alloc, limit, state, framer, piece, out)?;
+    end_state(alloc, state, true, out)
+}
+
+/// Takes the end of a text, and writes the rest of the output.
+pub fn take_text_end<K: Sink>(
+    alloc: Global,
+    limit: u64,
+    state: &mut JobState,
+    framer: &mut Framer,
+    out: &mut K,
+) -> Result<Status, JobFault>
+    requires stands { Stands limit framer.old.bytes state.old }
+    requires stream { IsRead framer.old }
+    requires size { length framer.old.bytes ≤ most_bytes }
+    ensures status { IfOk result (λ s. s ≡ end_of framer.old.bytes limit) }
+    ensures wrote { OnOk result (Grew (K.held out.old) (K.held out.new) (written_at More limit framer.old.bytes) (output framer.old.bytes limit)) }
+    ensures front { OnErr result (GrewByFront (K.held out.old) (K.held out.new) (written_at More limit framer.old.bytes) (output framer.old.bytes limit)) }
+    ensures cause { HasJobCause (K.faults out.old) (K.faults out.new) result }
+{
+    framer.finish();
+    feed_lines(alloc, limit, state, framer, out)?;
+    end_state(alloc, state, false, out)
+}
