@@ -1,4 +1,4 @@
-use Rattle.std.proofs.Common.{ℕ, ◌+◌, ◌*◌, ◌%◌, ◌≡◌, ◌∙◌, arith}
+use Rattle.std.proofs.Common.{◌*◌, ◌∙◌}
 use Rattle.mm_field.proofs.StepLemmas.{three_step, same_rest}
 use Rattle.mm_field.proofs.lanes.sum_three.Goals as goal
 
