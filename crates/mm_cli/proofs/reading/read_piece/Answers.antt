@@ -22,7 +22,7 @@ returns-in-Ok-Ended-clause-stop g c = λ s e left held far.
     let room : length j.text + length piece ≤ most_bytes + 1 = grind (arith, common_steps) in
     subst (λ t. Ran j.limit left (g.S.Source.left c.read.new.self) held (g.K.Sink.held c.feed.new.out) t) (stop_is c.in-Ok-Ended.status s e)
     (ran_ended j.limit left (g.S.Source.left c.args.source.now) (g.S.Source.left c.read.new.self) held (g.K.Sink.held c.args.sink.now) (g.K.Sink.held c.feed.new.out)
-    j.text piece c.in-Ok-Ended.status far c.in-Ok.ensures.bytes.0 room c.in-Ok-Ended.ensures.wrote (sym c.in-Ok-Ended.field-0-is ∙ c.in-Ok-Ended.ensures.progress))
+    j.text piece c.in-Ok-Ended.status far c.in-Ok.ensures.bytes.0 room c.in-Ok-Ended.ensures.writes.wrote (sym c.in-Ok-Ended.field-0-is ∙ c.in-Ok-Ended.ensures.progress))
 
 pub returns-in-Err-clause-stop : goal.returns-in-Err-clause-stop
 returns-in-Err-clause-stop g c = λ s e left held far.
@@ -31,7 +31,7 @@ returns-in-Err-clause-stop g c = λ s e left held far.
     let room : length j.text + length piece ≤ most_bytes + 1 = grind (arith, common_steps) in
     subst (λ t. Ran j.limit left (g.S.Source.left c.read.new.self) held (g.K.Sink.held c.feed.new.out) t) (sym c.cut.ensures ∙ stop_is c.cut.result s e)
     (ran_stopped j.limit left (g.S.Source.left c.args.source.now) (g.S.Source.left c.read.new.self) held (g.K.Sink.held c.args.sink.now) (g.K.Sink.held c.feed.new.out)
-    j.text piece c.in-Err.fault far c.in-Ok.ensures.bytes.0 room c.in-Err.ensures.front)
+    j.text piece c.in-Err.fault far c.in-Ok.ensures.bytes.0 room c.in-Err.ensures.writes.front)
 
 pub returns-in-Ok-More-clause-more : goal.returns-in-Ok-More-clause-more
 returns-in-Ok-More-clause-more g c = λ n e.
@@ -53,7 +53,7 @@ returns-in-Ok-More-clause-more g c = λ n e.
       λ left held far.
           subst (λ t. SoFar j.limit left (g.S.Source.left c.read.new.self) held (g.K.Sink.held c.feed.new.out) t) (sym text)
           (further j.limit left (g.S.Source.left c.args.source.now) (g.S.Source.left c.read.new.self) held (g.K.Sink.held c.args.sink.now) (g.K.Sink.held c.feed.new.out)
-          j.text piece far c.in-Ok.ensures.bytes.0 room c.in-Ok-More.ensures.wrote),
+          j.text piece far c.in-Ok.ensures.bytes.0 room c.in-Ok-More.ensures.writes.wrote),
     )
 
 pub returns-in-Ok-Ended-clause-read_fault : goal.returns-in-Ok-Ended-clause-read_fault
