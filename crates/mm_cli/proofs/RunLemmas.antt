@@ -10,7 +10,8 @@ use Rattle.mm_base.specs.declared.status.Status.TheVariants as ends
 use Rattle.mm_base.proofs.FrontLemmas.{front_after, front_more}
 use Rattle.mm_lines.specs.Fronts.{IsFront}
 use Rattle.mm_lines.specs.Lines.{lines_of, most_bytes, settled}
-use Rattle.mm_job.specs.Header.{header, header_lines, parts}
+use Rattle.mm_header.specs.Header.{parts}
+use Rattle.mm_job.specs.Header.{header, header_lines}
 use Rattle.mm_job.specs.Jobs.{Grew, GrewByFront, JobValue, progress, with_piece}
 use Rattle.mm_job.specs.Output.{output, output_lines, settled_output, settled_lines, written_lines, end_of}
 use Rattle.mm_job.specs.declared.progress.JobFault.{JobFault}
