@@ -14,3 +14,4 @@ pub mod Feeding
 pub mod Standing
 pub mod Kept
 pub mod Jobs
+pub mod Calls

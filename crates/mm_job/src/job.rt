@@ -38,6 +38,7 @@ impl Model for Job {
 impl Job {
     ghost use Rattle.std.specs.Prelude.{◌≡◌, ◌≤◌, ◌+◌, ◌++◌, [], true, false, Ok, IfOk, OnOk, OnErr, length};
     ghost use Rattle.mm_lines.specs.Lines.{most_bytes, settled};
+    ghost use Rattle.mm_job.specs.Calls.{Writes};
     ghost use Rattle.mm_job.specs.Jobs.{Grew, GrewByFront, HasJobCause, goes_on, progress, with_piece};
     ghost use Rattle.mm_job.specs.Output.{Over, end_of, output, settled_output, status_of, written_lines};
     ghost use Rattle.mm_job.specs.Standing.{written_at};
@@ -135,9 +136,8 @@ impl Job {
         ensures text { result ≡ Ok More → self.new.text ≡ with_piece self.old.text piece.now }
         ensures limit { self.new.limit ≡ self.old.limit }
         ensures live { self.new.live ≡ goes_on result }
-        ensures wrote { OnOk result (Grew (K.held out.old) (K.held out.new) (settled_output self.old.text self.old.limit) (settled_output (with_piece self.old.text piece.now) self.old.limit)) }
-        ensures front { OnErr result (GrewByFront (K.held out.old) (K.held out.new) (settled_output self.old.text self.old.limit) (settled_output (with_piece self.old.text piece.now) self.old.limit)) }
-        ensures cause { HasJobCause (K.faults out.old) (K.faults out.new) result }
+        ensures writes { Writes K.held K.faults out.old out.new
+            (settled_output self.old.text self.old.limit) (settled_output (with_piece self.old.text piece.now) self.old.limit) result }
         ensures steps { steps.new ≡ steps.old }
     {
         let room = MAX_BYTES - self.taken;
@@ -159,9 +159,8 @@ impl Job {
         ensures status { IfOk result (λ status. status ≡ end_of self.old.text self.old.limit) }
         ensures limit { self.new.limit ≡ self.old.limit }
         ensures live { self.new.live ≡ false }
-        ensures wrote { OnOk result (Grew (K.held out.old) (K.held out.new) (settled_output self.old.text self.old.limit) (output self.old.text self.old.limit)) }
-        ensures front { OnErr result (GrewByFront (K.held out.old) (K.held out.new) (settled_output self.old.text self.old.limit) (output self.old.text self.old.limit)) }
-        ensures cause { HasJobCause (K.faults out.old) (K.faults out.new) result }
+        ensures writes { Writes K.held K.faults out.old out.new
+            (settled_output self.old.text self.old.limit) (output self.old.text self.old.limit) result }
         ensures steps { steps.new ≡ steps.old }
     {
         self.live = false;

@@ -14,7 +14,7 @@ ghost use Rattle.mm_job.specs.Meaning.{everything};
 ghost use Rattle.mm_logic.specs.PresentMatrix.{is_independent_set};
 ghost use Rattle.mm_tree.specs.NamedTree.{shape};
 ghost use Rattle.mm_job_text.specs.Readers.{Read};
-ghost use Rattle.mm_job.specs.Sessions.{session_of};
+ghost use Rattle.mm_job.specs.Sessions.{session_of, session_with};
 ghost use Rattle.mm_job.specs.declared.output_line.OutputLine.TheVariants.{Says};
 
 use crate::items::says;
@@ -126,8 +126,31 @@ fn within_limit(limit: u64, query: &Scoped, tree: &Tree) -> Result<(), Refusal>
     }
 }
 
-/// Takes the query line after a header.
+/// The query of the query line after a header and its tree, where it is built, the rows and the tree agree, and the tree is within the
+/// limit on sizes.
 #[tactic(auto, unfolding(crate::specs::Header::query_part))]
+fn checked_query(
+    alloc: Global,
+    limit: u64,
+    header: &HeaderData,
+    tree: &Tree,
+    line: &Line,
+) -> Result<Scoped, Stop>
+    requires header { IsHeader header.now }
+    requires tree { tree.now.f ≡ header.now.field }
+    ensures built { IfOk result (λ query. is_built (query_value query) ≡ true) }
+    ensures goes { (rs : List Line) → Goes result (after_parts limit (header_value header.now, tree.now.tree) (line.now ∷ rs))
+        (λ query. Read (session_with limit header.now (query_value query) tree.now.tree) rs) }
+{
+    let query = built_query(alloc, line)?;
+    match_rows(alloc, header, tree)?;
+    match within_limit(limit, &query, tree) {
+        Ok(()) => Ok(query),
+        Err(refusal) => Err(Stop::Refused(refusal)),
+    }
+}
+
+/// Takes the query line after a header and its tree.
 pub fn start(
     alloc: Global,
     limit: u64,
@@ -141,11 +164,7 @@ pub fn start(
     ensures built { IfOk result (λ s. is_built (query_value s.query) ≡ true) }
     ensures goes { (rs : List Line) → Goes result (after_parts limit (header_value header, tree.tree) (line.now ∷ rs)) (λ s. Read (session_of s) rs) }
 {
-    let query = built_query(alloc, line)?;
-    match_rows(alloc, &header, &tree)?;
-    if let Err(refusal) = within_limit(limit, &query, &tree) {
-        return Err(Stop::Refused(refusal));
-    }
+    let query = checked_query(alloc, limit, &header, &tree, line)?;
     let HeaderData {
         format: _,
         field,

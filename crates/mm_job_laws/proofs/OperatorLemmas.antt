@@ -21,7 +21,7 @@ use Rattle.mm_ops.specs.declared.op.OpFault.TheVariants.{Bound, Shape, Dependent
 use Rattle.mm_ops.proofs.ValidOps.{valid_ops_exactly}
 use Rattle.mm_job_text.specs.Arguments.{args}
 use Rattle.mm_job_text.specs.DigitTexts.{is_digit, digit_of, digits_of, vectors_of}
-use Rattle.mm_job_text.specs.OperatorLines.{OperatorTokens, operator_tokens, third_matrix, shown, operator_line, third_or_units, operator_of, operator_refusal, table_refusal, operator_line, op_line, HasThirdDigits, HasDigits}
+use Rattle.mm_job_text.specs.OperatorLines.{OperatorTokens, operator_tokens, third_matrix, shown, operator_fields, third_or_units, operator_of, operator_refusal, table_refusal, operator_line, op_line, HasThirdDigits, HasDigits}
 use Rattle.mm_job_text.specs.declared.format.Format.{Format}
 use Rattle.mm_job_text.specs.declared.operator_line.OperatorLine.{OperatorLine}
 use Rattle.mm_job_text.specs.declared.operator_line.ThirdMatrix.{ThirdMatrix}
@@ -67,8 +67,8 @@ shown_are f t e =
     if_ok (λ g3. HasThirdDigits f g3) P (third_matrix f t.g3 e) _ (third_are f t.g3 e) (λ g3 third.
     record { first = (text_of_vectors f t.g1 g1 first).digits; second = (text_of_vectors f t.g2 g2 second).digits; third = third }))))))))
 
-words_are : (version : Format) (f : Field) (r : Line) → IfOk (operator_line version f r) (λ w. HasDigits f w)
-unfolding operator_line
+words_are : (version : Format) (f : Field) (r : Line) → IfOk (operator_fields version f r) (λ w. HasDigits f w)
+unfolding operator_fields
 words_are version f r =
     if_found (λ w. HasDigits f w) (operator_tokens version (args r)) (refusal.Syntax r.number) _ (λ t e. shown_are f t (refusal.Syntax r.number))
 
@@ -95,7 +95,7 @@ AreValidOps f ops = AllByRecursion (λ (entry : List ℕ × OpValue). IsValidOp 
 line_is_valid : (version : Format) (f : Field) (r : Line) → IfOk (operator_line version f r) (λ (named : List ℕ × OpValue). IsValidOp f named.1.op)
 unfolding operator_line
 line_is_valid version f r =
-    if_ok (λ w. HasDigits f w) (λ (named : List ℕ × OpValue). IsValidOp f named.1.op) (operator_line version f r) _ (words_are version f r) (λ w h.
+    if_ok (λ w. HasDigits f w) (λ (named : List ℕ × OpValue). IsValidOp f named.1.op) (operator_fields version f r) _ (words_are version f r) (λ w h.
     if_unless (λ (named : List ℕ × OpValue). IsValidOp f named.1.op) (operator_refusal r.number (fault_of f (operator_of w))) _ (λ none.
     operator_is_valid f w h (no_fault r.number (fault_of f (operator_of w)) none)))
 

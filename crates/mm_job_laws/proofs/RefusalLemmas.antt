@@ -2,11 +2,13 @@
 use Rattle.std.specs.Prelude.{◌≡◌, ◌↔◌, refl, ℕ, Bool, true, false, not, List, ◌∷◌, Ok}
 use Rattle.std.proofs.Common.{sym, ap, subst, ◌∙◌}
 use Rattle.std.specs.declared.result.Result.{Result}
-use Rattle.mm_job.specs.Header.{Parts, Session, parts, query_part, header, header_lines, matched, started, built}
-use Rattle.mm_job.specs.Meaning.{Query}
+use Rattle.mm_header.specs.Header.{Parts, parts, verdict_refusal}
+use Rattle.mm_header.specs.Queries.{Query, query_line}
+use Rattle.mm_header.specs.Queries.Question.{Spelled}
+use Rattle.mm_header.specs.Rules.{job_rules}
+use Rattle.mm_job.specs.Header.{Session, query_part, header, header_lines, started, built}
 use Rattle.mm_job.specs.NotBuilt.{is_built, may_be_over, over_limit}
 use Rattle.mm_job.specs.Output.{Ending, More, Ended, Over, ending, lines_after_header, written_lines, output_lines}
-use Rattle.mm_job.specs.QueryLines.{query_line}
 use Rattle.mm_lines.specs.Lines.{lines}
 use Rattle.mm_lines.specs.declared.line.Line.{Line}
 use Rattle.mm_present.specs.Comparing.{compared}
@@ -24,22 +26,22 @@ use Rattle.mm_job_laws.proofs.SoundLemmas.{lines_are_sound}
 
 -- the header after a query that is built
 abbrev after : Session → List Line → Verdict → Reading Session
-after s rest v = and_then (and_then (now (matched v) rest) (λ u. now (Ok s))) (λ s. now (started s))
+after s rest v = and_then (and_then (now (verdict_refusal v) rest) (λ u. now (Ok s))) (λ s. now (started s))
 
-after_query : (limit : ℕ) (p : Parts) (r : Line) (rest : List Line) (query : Query) → whole query_line r ≡ Ok query → is_built query ≡ true →
+after_query : (limit : ℕ) (p : Parts) (r : Line) (rest : List Line) (query : Query) → whole (query_line Spelled) r ≡ Ok query → is_built query ≡ true →
     and_then (query_part limit p (r ∷ rest)) (λ s. now (started s)) ≡ after (session_of limit p query) rest (compared p.0.f (given_of p) p.1)
 unfolding query_part
 after_query limit p r rest query e b =
     let v = compared p.0.f (given_of p) p.1 in
     ap (λ (line : Result Query Refusal). and_then
-    (and_then (now line rest) (λ query rest. and_then (now (built query) rest) (λ u rest. and_then (now (matched v) rest) (λ u.
+    (and_then (now line rest) (λ query rest. and_then (now (built query) rest) (λ u rest. and_then (now (verdict_refusal v) rest) (λ u.
     now (Ok (session_of limit p query)))))) (λ s. now (started s))) e
     ∙ ap (λ built. and_then
-    (and_then (now (require built refusal.NotBuilt) rest) (λ u rest. and_then (now (matched v) rest) (λ u. now (Ok (session_of limit p query)))))
+    (and_then (now (require built refusal.NotBuilt) rest) (λ u rest. and_then (now (verdict_refusal v) rest) (λ u. now (Ok (session_of limit p query)))))
     (λ s. now (started s))) b
 
-header_after : (limit : ℕ) (rs : List Line) (p : Parts) (r : Line) (rest : List Line) (query : Query) → parts rs ≡ Read p (r ∷ rest) →
-    whole query_line r ≡ Ok query → is_built query ≡ true → header limit rs ≡ after (session_of limit p query) rest (compared p.0.f (given_of p) p.1)
+header_after : (limit : ℕ) (rs : List Line) (p : Parts) (r : Line) (rest : List Line) (query : Query) → parts job_rules rs ≡ Read p (r ∷ rest) →
+    whole (query_line Spelled) r ≡ Ok query → is_built query ≡ true → header limit rs ≡ after (session_of limit p query) rest (compared p.0.f (given_of p) p.1)
 unfolding header header_lines
 header_after limit rs p r rest query e q b =
     ap (λ (reading : Reading Parts). and_then (and_then reading (query_part limit)) (λ s. now (started s))) e
@@ -74,7 +76,7 @@ decided limit p query rest (verdict.Present j) h = record {
 
 pub rows_are_refused_exactly : RowsAreRefusedExactly
 rows_are_refused_exactly limit rs rest r p query e q b =
-    let s = lines_are_sound rs (r ∷ rest) p e in
+    let s = lines_are_sound job_rules rs (r ∷ rest) p e in
     let same = same_exactly_where_they_agree p.0.f (given_of p) p.1 s.tree.valid_shape (different_elements p.1 s.tree.different) s.different s.vectors in
     subst (λ (reading : Reading Session). IsDecidedByAgreement limit p query rest reading) (sym (header_after limit rs p r rest query e q b))
     (decided limit p query rest (compared p.0.f (given_of p) p.1) same)

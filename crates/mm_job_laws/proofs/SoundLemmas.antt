@@ -8,14 +8,15 @@ use Rattle.std.proofs.lemmas.List.Elements.{All-nil, All-cons, All-append}
 use Rattle.mm_base.specs.Names.{is_name}
 use Rattle.mm_field.specs.declared.Field.{Field}
 use Rattle.mm_field.specs.Vectors.{IsVector, AreVectors}
-use Rattle.mm_job.specs.Header.{HeaderData, parts, field_part, elements_part, rows_part, ops_part, tree_part_of}
+use Rattle.mm_header.specs.Header.{HeaderValue, parts, field_part, elements_part, rows_part, ops_part, tree_part_of}
+use Rattle.mm_header.specs.declared.rules.HeaderRules.{HeaderRules}
 use Rattle.mm_lines.specs.declared.line.Line.{Line}
 use Rattle.mm_tree.proofs.BuilderLemmas.{distinct_push, none_distinct}
 use Rattle.mm_tree.specs.NamedTree.{Tree, is_one_of}
 use Rattle.mm_tree.specs.ValidTree.{IsValidTree}
 use Rattle.mm_job_text.specs.Arguments.{args, begins, one_of}
 use Rattle.mm_job_text.specs.DigitTexts.{digits_of}
-use Rattle.mm_job_text.specs.HeaderLines.{most_elements, most_rows, format_line, field_line, with_name, with_names, elements_line, row_line, tree_line}
+use Rattle.mm_job_text.specs.HeaderLines.{most_rows, format_line, field_line, with_name, with_names, elements_line, row_line, tree_line}
 use Rattle.mm_job_text.specs.OperatorLines.{op_line}
 use Rattle.mm_job_text.specs.Readers.{line, each}
 use Rattle.mm_job_text.specs.TreeLines.{tree_lines}
@@ -32,21 +33,21 @@ use Rattle.mm_job_laws.proofs.TreeLemmas.{tree_is_valid}
 abbrev AreDifferent : List (List ℕ) → Type 0
 AreDifferent names = IsDistinct bytes_eq names
 
-one_more_name : (n : ℕ) (names : List (List ℕ)) (name : List ℕ) → AreDifferent names → IfOk (with_name n names name) AreDifferent
-one_more_name n names name d =
+one_more_name : (most n : ℕ) (names : List (List ℕ)) (name : List ℕ) → AreDifferent names → IfOk (with_name most n names name) AreDifferent
+one_more_name most n names name d =
     if_require AreDifferent (not (is_one_of name names)) (refusal.Taken name) _ (λ free.
-    if_require AreDifferent (nat_lt (length names) most_elements) (refusal.Over limit.Elements n) _ (λ room.
+    if_require AreDifferent (nat_lt (length names) most) (refusal.Over limit.Elements n) _ (λ room.
     distinct_push names name d (not-true (is_one_of name names) free)))
 
-more_names : (n : ℕ) (names ts : List (List ℕ)) → AreDifferent names → IfOk (with_names n names ts) AreDifferent
-more_names n names [] d = d
-more_names n names (t ∷ ts) d =
-    if_ok AreDifferent AreDifferent (with_name n names t) _ (one_more_name n names t d) (λ more e. more_names n more ts e)
+more_names : (most n : ℕ) (names ts : List (List ℕ)) → AreDifferent names → IfOk (with_names most n names ts) AreDifferent
+more_names most n names [] d = d
+more_names most n names (t ∷ ts) d =
+    if_ok AreDifferent AreDifferent (with_name most n names t) _ (one_more_name most n names t d) (λ more e. more_names most n more ts e)
 
-names_stay_different : (names : List (List ℕ)) (r : Line) → AreDifferent names → IfOk (elements_line names r) AreDifferent
+names_stay_different : (most : ℕ) (names : List (List ℕ)) (r : Line) → AreDifferent names → IfOk (elements_line most names r) AreDifferent
 unfolding elements_line
-names_stay_different names r d =
-    if_require AreDifferent (list_all is_name (args r)) (refusal.Syntax r.number) _ (λ formed. more_names r.number names (args r) d)
+names_stay_different most names r d =
+    if_require AreDifferent (list_all is_name (args r)) (refusal.Syntax r.number) _ (λ formed. more_names most r.number names (args r) d)
 
 -- ---- rows
 
@@ -62,53 +63,53 @@ rows_stay_vectors f n rows r h =
 
 -- ---- the parts of a header
 
-sound_tree : (g : HeaderData) → AreDifferent g.names → AreVectors g.f (length g.names) g.rows → AreValidOps g.f g.ops → (rs : List Line) →
-    IfRead (λ p. AreSound p) (tree_part_of g [] rs)
+sound_tree : (rules : HeaderRules) (g : HeaderValue) → AreDifferent g.names → AreVectors g.f (length g.names) g.rows → AreValidOps g.f g.ops → (rs : List Line) →
+    IfRead (λ p. AreSound p) (tree_part_of rules g [] rs)
 unfolding tree_part_of
-sound_tree g d v ops rs =
-    then_has (λ (read : Tree × ℕ). IsValidTree g.f read.0) (λ p. AreSound p) (tree_lines g.f g.ops [] rs) _ (tree_is_valid g.f g.ops rs ops)
+sound_tree rules g d v ops rs =
+    then_has (λ (read : Tree × ℕ). IsValidTree g.f read.0) (λ p. AreSound p) (tree_lines rules.leaves g.f g.ops [] rs) _ (tree_is_valid rules.leaves g.f g.ops rs ops)
     (λ tree rest valid. record { different = d; vectors = v; tree = valid })
 
-sound_ops : (g : HeaderData) → AreDifferent g.names → AreVectors g.f (length g.names) g.rows → AreValidOps g.f g.ops → (rs : List Line) →
-    IfRead (λ p. AreSound p) (ops_part g rs)
+sound_ops : (rules : HeaderRules) (g : HeaderValue) → AreDifferent g.names → AreVectors g.f (length g.names) g.rows → AreValidOps g.f g.ops → (rs : List Line) →
+    IfRead (λ p. AreSound p) (ops_part rules g rs)
 unfolding ops_part
-sound_ops g d v ops rs =
+sound_ops rules g d v ops rs =
     then_has (AreValidOps g.f) (λ p. AreSound p) (each (begins (codes "op")) (op_line g.version g.f) g.ops rs) _
     (each_has (AreValidOps g.f) (begins (codes "op")) (op_line g.version g.f) (λ more r h. ops_stay_valid g.version g.f more r h) g.ops rs ops)
     (λ more rest valid.
     then_has (λ u. Unit {0}) (λ p. AreSound p) (line tree_line rest) _ (line_has (λ u. Unit {0}) tree_line (λ r. anything (tree_line r)) rest)
-    (λ u after t. sound_tree (record g { ops = more }) d v valid after))
+    (λ u after t. sound_tree rules (record g { ops = more }) d v valid after))
 
-sound_rows : (g : HeaderData) → AreDifferent g.names → AreVectors g.f (length g.names) g.rows → AreValidOps g.f g.ops → (rs : List Line) →
-    IfRead (λ p. AreSound p) (rows_part g rs)
+sound_rows : (rules : HeaderRules) (g : HeaderValue) → AreDifferent g.names → AreVectors g.f (length g.names) g.rows → AreValidOps g.f g.ops → (rs : List Line) →
+    IfRead (λ p. AreSound p) (rows_part rules g rs)
 unfolding rows_part
-sound_rows g d v ops rs =
+sound_rows rules g d v ops rs =
     then_has (AreVectors g.f (length g.names)) (λ p. AreSound p) (each (begins (codes "row")) (row_line g.f (length g.names)) g.rows rs) _
     (each_has (AreVectors g.f (length g.names)) (begins (codes "row")) (row_line g.f (length g.names))
     (λ more r h. rows_stay_vectors g.f (length g.names) more r h) g.rows rs v)
-    (λ more rest vectors. sound_ops (record g { rows = more }) d vectors ops rest)
+    (λ more rest vectors. sound_ops rules (record g { rows = more }) d vectors ops rest)
 
-sound_elements : (g : HeaderData) → AreDifferent g.names → g.rows ≡ [] → AreValidOps g.f g.ops → (rs : List Line) →
-    IfRead (λ p. AreSound p) (elements_part g rs)
+sound_elements : (rules : HeaderRules) (g : HeaderValue) → AreDifferent g.names → g.rows ≡ [] → AreValidOps g.f g.ops → (rs : List Line) →
+    IfRead (λ p. AreSound p) (elements_part rules g rs)
 unfolding elements_part
-sound_elements g d none ops rs =
-    then_has AreDifferent (λ p. AreSound p) (each (begins (codes "elements")) elements_line g.names rs) _
-    (each_has AreDifferent (begins (codes "elements")) elements_line (λ more r h. names_stay_different more r h) g.names rs d)
+sound_elements rules g d none ops rs =
+    then_has AreDifferent (λ p. AreSound p) (each (begins (codes "elements")) (elements_line rules.names) g.names rs) _
+    (each_has AreDifferent (begins (codes "elements")) (elements_line rules.names) (λ more r h. names_stay_different rules.names more r h) g.names rs d)
     (λ more rest different.
-    sound_rows (record g { names = more }) different
+    sound_rows rules (record g { names = more }) different
     (subst (λ rows. AreVectors g.f (length more) rows) (sym none) (All-nil (λ v. IsVector g.f (length more) v))) ops rest)
 
-sound_field : (version : Format) (rs : List Line) → IfRead (λ p. AreSound p) (field_part version rs)
+sound_field : (rules : HeaderRules) (version : Format) (rs : List Line) → IfRead (λ p. AreSound p) (field_part rules version rs)
 unfolding field_part
-sound_field version rs =
+sound_field rules version rs =
     then_has (λ (f : Field). Unit {0}) (λ p. AreSound p) (line field_line rs) _ (line_has (λ (f : Field). Unit {0}) field_line (λ r. anything (field_line r)) rs)
-    (λ f rest t. sound_elements (record { version = version; f = f; names = []; rows = []; ops = [] }) none_distinct refl tt rest)
+    (λ f rest t. sound_elements rules (record { version = version; f = f; names = []; rows = []; ops = [] }) none_distinct refl tt rest)
 
-sound_parts : (rs : List Line) → IfRead (λ p. AreSound p) (parts rs)
+sound_parts : (rules : HeaderRules) (rs : List Line) → IfRead (λ p. AreSound p) (parts rules rs)
 unfolding parts
-sound_parts rs =
+sound_parts rules rs =
     then_has (λ (v : Format). Unit {0}) (λ p. AreSound p) (line format_line rs) _ (line_has (λ (v : Format). Unit {0}) format_line (λ r. anything (format_line r)) rs)
-    (λ version rest t. sound_field version rest)
+    (λ version rest t. sound_field rules version rest)
 
 pub lines_are_sound : LinesAreSound
-lines_are_sound rs rest p e = read_has (λ p. AreSound p) (parts rs) p rest (sound_parts rs) e
+lines_are_sound rules rs rest p e = read_has (λ p. AreSound p) (parts rules rs) p rest (sound_parts rules rs) e

@@ -3,11 +3,14 @@ use Rattle.std.specs.Prelude.{◌≡◌, ◌↔◌, ℕ, List, [], ◌∷◌, tr
 use Rattle.std.specs.List.{IsDistinct}
 use Rattle.std.specs.Str.{bytes_eq}
 use Rattle.mm_field.specs.Vectors.{AreVectors}
-use Rattle.mm_job.specs.Header.{Parts, Session, parts, header, started}
-use Rattle.mm_job.specs.Meaning.{Query}
+use Rattle.mm_header.specs.Header.{Parts, parts}
+use Rattle.mm_header.specs.Queries.{Query, query_line}
+use Rattle.mm_header.specs.Queries.Question.{Spelled}
+use Rattle.mm_header.specs.Rules.{job_rules}
+use Rattle.mm_header.specs.declared.rules.HeaderRules.{HeaderRules}
+use Rattle.mm_job.specs.Header.{Session, header, started}
 use Rattle.mm_job.specs.NotBuilt.{is_built}
 use Rattle.mm_job.specs.Output.{output_lines}
-use Rattle.mm_job.specs.QueryLines.{query_line}
 use Rattle.mm_job.specs.declared.output_line.OutputLine.{OutputLine}
 use Rattle.mm_job.specs.declared.output_line.OutputLine.TheVariants.{Refuses}
 use Rattle.mm_job_laws.specs.Agreement.{Agrees}
@@ -29,9 +32,9 @@ pub record AreSound (p : Parts) : Type 0 where
   pub vectors : AreVectors p.0.f (length p.0.names) p.0.rows
   pub tree : IsValidTree p.0.f p.1
 
--- The lines before the query, where none is faulty, give different names, rows over them and a valid tree.
+-- The lines before the query of a header, whatever its limits, where none is faulty, give different names, rows over them and a valid tree.
 abbrev pub LinesAreSound : Type 0
-LinesAreSound = (rs rest : List Line) (p : Parts) → parts rs ≡ Read p rest → AreSound p
+LinesAreSound = (rules : HeaderRules) (rs rest : List Line) (p : Parts) → parts rules rs ≡ Read p rest → AreSound p
 
 -- One of the refusals `elements NAME`, `rowspace given I` and `rowspace tree J`.
 abbrev pub IsRowRefusal : Refusal → Type 0
@@ -59,8 +62,8 @@ pub record IsDecidedByAgreement (limit : ℕ) (p : Parts) (query : Query) (rest 
 -- Where no line of a header up to its query is faulty, agreement decides what is made of it.
 abbrev pub RowsAreRefusedExactly : Type 0
 RowsAreRefusedExactly =
-    (limit : ℕ) (rs rest : List Line) (r : Line) (p : Parts) (query : Query) → parts rs ≡ Read p (r ∷ rest)
-    → whole query_line r ≡ Ok query → is_built query ≡ true → IsDecidedByAgreement limit p query rest (header limit rs)
+    (limit : ℕ) (rs rest : List Line) (r : Line) (p : Parts) (query : Query) → parts job_rules rs ≡ Read p (r ∷ rest)
+    → whole (query_line Spelled) r ≡ Ok query → is_built query ≡ true → IsDecidedByAgreement limit p query rest (header limit rs)
 
 -- Nothing is written but one line, which refuses the rows.
 abbrev pub IsRowRefusalAlone : List OutputLine → Type 0
@@ -71,6 +74,6 @@ IsRowRefusalAlone output_line = ⊥
 -- with the tree.
 abbrev pub OutputRefusesRowsExactly : Type 0
 OutputRefusesRowsExactly =
-    (limit : ℕ) (text : List ℕ) (rest : List Line) (r : Line) (p : Parts) (query : Query) → parts (lines text) ≡ Read p (r ∷ rest)
-    → whole query_line r ≡ Ok query → is_built query ≡ true
+    (limit : ℕ) (text : List ℕ) (rest : List Line) (r : Line) (p : Parts) (query : Query) → parts job_rules (lines text) ≡ Read p (r ∷ rest)
+    → whole (query_line Spelled) r ≡ Ok query → is_built query ≡ true
     → IsRowRefusalAlone (output_lines text limit) ↔ (Agrees p.0.f (given_of p) p.1 → ⊥)

@@ -8,7 +8,7 @@ returns-in-Ok-clause-run g c =
     let l = g.S.Source.left in
     let h = g.K.Sink.held in
     finished c.args.job.now.limit (l c.args.source.now) (l c.read_pieces.new.source) (h c.args.sink.now) (h c.read_pieces.new.sink) (h c.finish.new.out)
-    c.read_pieces.new.job c.in-Ok.status c.in_default.ensures.all.1 c.in-Ok.ensures.status c.in-Ok.ensures.wrote
+    c.read_pieces.new.job c.in-Ok.status c.in_default.ensures.all.1 c.in-Ok.ensures.status c.in-Ok.ensures.writes.wrote
 
 pub returns-in-Err-clause-run : goal.returns-in-Err-clause-run
 returns-in-Err-clause-run g c =
@@ -16,4 +16,4 @@ returns-in-Err-clause-run g c =
     let h = g.K.Sink.held in
     subst (λ s. Ran c.args.job.now.limit (l c.args.source.now) (l c.read_pieces.new.source) (h c.args.sink.now) (h c.finish.new.out) s) (sym c.cut.ensures)
     (unfinished c.args.job.now.limit (l c.args.source.now) (l c.read_pieces.new.source) (h c.args.sink.now) (h c.read_pieces.new.sink) (h c.finish.new.out)
-    c.read_pieces.new.job c.in-Err.fault c.in_default.ensures.all.1 c.in-Err.ensures.front)
+    c.read_pieces.new.job c.in-Err.fault c.in_default.ensures.all.1 c.in-Err.ensures.writes.front)

@@ -17,25 +17,19 @@ returns-then-piece-room-clause-progress g c =
     value_as (Ended (status_of (written_lines s.limit Over (settled (s.text ++ take room piece))))) (progress (with_piece s.text piece) s.limit) c.feed_last.result
     (last_progress s room piece (room_of c.self.inside s c.self.view_is c.requires.live c.self.invariant) long) c.feed_last.ensures.progress
 
-pub returns-then-piece-room-clause-wrote : goal.returns-then-piece-room-clause-wrote
-returns-then-piece-room-clause-wrote g c =
+pub returns-then-piece-room-clause-writes : goal.returns-then-piece-room-clause-writes
+returns-then-piece-room-clause-writes g c =
     let s = c.args.self.now in
     let piece = c.args.piece.now in
     let room = most_bytes - c.self.inside.taken in
     let long : room < length piece = omega (arith, c.if-piece-room.true) in
-    let R : List ℕ → Type 0 = λ l. Grew (g.K.Sink.held c.args.out.now) (g.K.Sink.held c.feed_last.new.out) (settled_output s.text s.limit) l in
-    on_ok_weaker {P = R (written_at Over s.limit (s.text ++ take room piece))} {Q = R (settled_output (with_piece s.text piece) s.limit)} c.feed_last.result
-    (subst R (last_output s room piece (room_of c.self.inside s c.self.view_is c.requires.live c.self.invariant) long)) c.feed_last.ensures.wrote
-
-pub returns-then-piece-room-clause-front : goal.returns-then-piece-room-clause-front
-returns-then-piece-room-clause-front g c =
-    let s = c.args.self.now in
-    let piece = c.args.piece.now in
-    let room = most_bytes - c.self.inside.taken in
-    let long : room < length piece = omega (arith, c.if-piece-room.true) in
-    let R : List ℕ → Type 0 = λ l. GrewByFront (g.K.Sink.held c.args.out.now) (g.K.Sink.held c.feed_last.new.out) (settled_output s.text s.limit) l in
-    on_err_weaker {P = R (written_at Over s.limit (s.text ++ take room piece))} {Q = R (settled_output (with_piece s.text piece) s.limit)} c.feed_last.result
-    (subst R (last_output s room piece (room_of c.self.inside s c.self.view_is c.requires.live c.self.invariant) long)) c.feed_last.ensures.front
+    let W : List ℕ → Type 0 = λ l. Grew (g.K.Sink.held c.args.out.now) (g.K.Sink.held c.feed_last.new.out) (settled_output s.text s.limit) l in
+    let F : List ℕ → Type 0 = λ l. GrewByFront (g.K.Sink.held c.args.out.now) (g.K.Sink.held c.feed_last.new.out) (settled_output s.text s.limit) l in
+    record {
+      wrote = on_ok_weaker {P = W (written_at Over s.limit (s.text ++ take room piece))} {Q = W (settled_output (with_piece s.text piece) s.limit)} c.feed_last.result (subst W (last_output s room piece (room_of c.self.inside s c.self.view_is c.requires.live c.self.invariant) long)) c.feed_last.ensures.wrote;
+      front = on_err_weaker {P = F (written_at Over s.limit (s.text ++ take room piece))} {Q = F (settled_output (with_piece s.text piece) s.limit)} c.feed_last.result (subst F (last_output s room piece (room_of c.self.inside s c.self.view_is c.requires.live c.self.invariant) long)) c.feed_last.ensures.front;
+      cause = c.feed_last.ensures.cause;
+    }
 
 pub returns-else-piece-room-clause-progress : goal.returns-else-piece-room-clause-progress
 returns-else-piece-room-clause-progress g c =
@@ -54,22 +48,16 @@ returns-else-piece-room-clause-text g c = λ more.
     let short : length piece ≤ room = omega (arith, c.if-piece-room.false) in
     c.feed_all.ensures.text more ∙ sym (fits s room piece (room_of c.self.inside s c.self.view_is c.requires.live c.self.invariant) short)
 
-pub returns-else-piece-room-clause-wrote : goal.returns-else-piece-room-clause-wrote
-returns-else-piece-room-clause-wrote g c =
+pub returns-else-piece-room-clause-writes : goal.returns-else-piece-room-clause-writes
+returns-else-piece-room-clause-writes g c =
     let s = c.args.self.now in
     let piece = c.args.piece.now in
     let room = most_bytes - c.self.inside.taken in
     let short : length piece ≤ room = omega (arith, c.if-piece-room.false) in
-    let R : List ℕ → Type 0 = λ l. Grew (g.K.Sink.held c.args.out.now) (g.K.Sink.held c.feed_all.new.out) (settled_output s.text s.limit) (settled_output l s.limit) in
-    on_ok_weaker {P = R (s.text ++ piece)} {Q = R (with_piece s.text piece)} c.feed_all.result
-    (subst R (sym (fits s room piece (room_of c.self.inside s c.self.view_is c.requires.live c.self.invariant) short))) c.feed_all.ensures.wrote
-
-pub returns-else-piece-room-clause-front : goal.returns-else-piece-room-clause-front
-returns-else-piece-room-clause-front g c =
-    let s = c.args.self.now in
-    let piece = c.args.piece.now in
-    let room = most_bytes - c.self.inside.taken in
-    let short : length piece ≤ room = omega (arith, c.if-piece-room.false) in
-    let R : List ℕ → Type 0 = λ l. GrewByFront (g.K.Sink.held c.args.out.now) (g.K.Sink.held c.feed_all.new.out) (settled_output s.text s.limit) (settled_output l s.limit) in
-    on_err_weaker {P = R (s.text ++ piece)} {Q = R (with_piece s.text piece)} c.feed_all.result
-    (subst R (sym (fits s room piece (room_of c.self.inside s c.self.view_is c.requires.live c.self.invariant) short))) c.feed_all.ensures.front
+    let W : List ℕ → Type 0 = λ l. Grew (g.K.Sink.held c.args.out.now) (g.K.Sink.held c.feed_all.new.out) (settled_output s.text s.limit) (settled_output l s.limit) in
+    let F : List ℕ → Type 0 = λ l. GrewByFront (g.K.Sink.held c.args.out.now) (g.K.Sink.held c.feed_all.new.out) (settled_output s.text s.limit) (settled_output l s.limit) in
+    record {
+      wrote = on_ok_weaker {P = W (s.text ++ piece)} {Q = W (with_piece s.text piece)} c.feed_all.result (subst W (sym (fits s room piece (room_of c.self.inside s c.self.view_is c.requires.live c.self.invariant) short))) c.feed_all.ensures.wrote;
+      front = on_err_weaker {P = F (s.text ++ piece)} {Q = F (with_piece s.text piece)} c.feed_all.result (subst F (sym (fits s room piece (room_of c.self.inside s c.self.view_is c.requires.live c.self.invariant) short))) c.feed_all.ensures.front;
+      cause = c.feed_all.ensures.cause;
+    }

@@ -6,18 +6,14 @@ use Rattle.mm_job.specs.Standing.{written_at}
 use Rattle.mm_job.proofs.JobLemmas.{live_of, of_state}
 use Rattle.mm_job.proofs.job.Job.finish.Goals as goal
 
-pub returns-clause-wrote : goal.returns-clause-wrote
-returns-clause-wrote g c =
+pub returns-clause-writes : goal.returns-clause-writes
+returns-clause-writes g c =
     let held = g.K.Sink.held in
     let i = c.self.inside in
-    let R : List ℕ → List ℕ → Type 0 = λ a b. Grew (held c.args.out.now) (held c.take_text_end.new.out) a b in
-    on_ok_weaker {P = R (written_at More i.limit i.framer.bytes) (output i.framer.bytes i.limit)} {Q = R (settled_output c.args.self.now.text c.args.self.now.limit) (output c.args.self.now.text c.args.self.now.limit)} c.take_text_end.result (of_state R (λ limit text. output text limit) i c.args.self.now c.self.view_is (live_of i c.args.self.now c.self.view_is c.requires.live c.self.invariant).size)
-    c.take_text_end.ensures.wrote
-
-pub returns-clause-front : goal.returns-clause-front
-returns-clause-front g c =
-    let held = g.K.Sink.held in
-    let i = c.self.inside in
-    let R : List ℕ → List ℕ → Type 0 = λ a b. GrewByFront (held c.args.out.now) (held c.take_text_end.new.out) a b in
-    on_err_weaker {P = R (written_at More i.limit i.framer.bytes) (output i.framer.bytes i.limit)} {Q = R (settled_output c.args.self.now.text c.args.self.now.limit) (output c.args.self.now.text c.args.self.now.limit)} c.take_text_end.result (of_state R (λ limit text. output text limit) i c.args.self.now c.self.view_is (live_of i c.args.self.now c.self.view_is c.requires.live c.self.invariant).size)
-    c.take_text_end.ensures.front
+    let W : List ℕ → List ℕ → Type 0 = λ a b. Grew (held c.args.out.now) (held c.take_text_end.new.out) a b in
+    let F : List ℕ → List ℕ → Type 0 = λ a b. GrewByFront (held c.args.out.now) (held c.take_text_end.new.out) a b in
+    record {
+      wrote = on_ok_weaker {P = W (written_at More i.limit i.framer.bytes) (output i.framer.bytes i.limit)} {Q = W (settled_output c.args.self.now.text c.args.self.now.limit) (output c.args.self.now.text c.args.self.now.limit)} c.take_text_end.result (of_state W (λ limit text. output text limit) i c.args.self.now c.self.view_is (live_of i c.args.self.now c.self.view_is c.requires.live c.self.invariant).size) c.take_text_end.ensures.wrote;
+      front = on_err_weaker {P = F (written_at More i.limit i.framer.bytes) (output i.framer.bytes i.limit)} {Q = F (settled_output c.args.self.now.text c.args.self.now.limit) (output c.args.self.now.text c.args.self.now.limit)} c.take_text_end.result (of_state F (λ limit text. output text limit) i c.args.self.now c.self.view_is (live_of i c.args.self.now c.self.view_is c.requires.live c.self.invariant).size) c.take_text_end.ensures.front;
+      cause = c.take_text_end.ensures.cause;
+    }
