@@ -6,6 +6,8 @@
 #[cfg(test)]
 mod base;
 #[cfg(test)]
+mod combine;
+#[cfg(test)]
 mod field;
 #[cfg(test)]
 mod formula;
