@@ -27,7 +27,7 @@ use Rattle.mm_job_laws.specs.Agreement.{AreAmong, Agrees, SameExactlyWhereTheyAg
 -- ---- names
 
 -- where no name is missing, each is among the others
-none_missing : (names others : List (List ℕ)) → first_missing names others ≡ None → AreAmong names others
+pub none_missing : (names others : List (List ℕ)) → first_missing names others ≡ None → AreAmong names others
 none_missing [] others e = All-nil (λ name. is_one_of name others ≡ true)
 none_missing (name ∷ names) others e = go (is_one_of name others) refl (none_missing names others)
   where
@@ -55,7 +55,7 @@ fails_all p xs e k d l = go (nat_lt (position_or_len p xs) (length xs)) refl e
     go false q e = let past : length xs ≤ position_or_len p xs = ltb-false _ _ q in fails_before_first p xs k d (omega arith)
 
 -- no row is outside exactly where each is a combination of the others
-all_inside : (f : Field) (n : ℕ) (rows others : List (List ℕ)) → AreVectors f n rows → AreVectors f n others → first_outside f n rows others ≡ None →
+pub all_inside : (f : Field) (n : ℕ) (rows others : List (List ℕ)) → AreVectors f n rows → AreVectors f n others → first_outside f n rows others ≡ None →
     IsWithin f n rows others
 all_inside f n rows others hr ho e k d l =
     (is_in_span_decides f n others (get_or rows k d) ho (hr k d l)).0
@@ -69,7 +69,7 @@ none_outside f n rows others hr ho w =
 
 -- ---- the rows of a tree, and given rows in its order
 
-tree_rows_are : (f : Field) (tree : Tree) → IsValid f (shape tree) → AreVectors f (length (element_names tree)) (present_rows f tree)
+pub tree_rows_are : (f : Field) (tree : Tree) → IsValid f (shape tree) → AreVectors f (length (element_names tree)) (present_rows f tree)
 unfolding present_rows
 tree_rows_are f tree ok =
     subst (λ n. AreVectors f n (map (matrix_row f (shape tree)) (range_with_len 0 (shapes.boundary (shape tree) + internal (shape tree)))))
@@ -81,7 +81,7 @@ row_in_order f n names others row h =
     subst (λ v. IsVector f (length others) v) (map-map (digit_at row) place others)
     (subst (λ m. IsVector f m (map (digit_at row) (map place others))) (length-map others place) (placed_vector f n row (map place others) h))
 
-rows_in_order : (f : Field) (n : ℕ) (names others : List (List ℕ)) (rows : List (List ℕ)) → AreVectors f n rows →
+pub rows_in_order : (f : Field) (n : ℕ) (names others : List (List ℕ)) (rows : List (List ℕ)) → AreVectors f n rows →
     AreVectors f (length others) (map (in_order names others) rows)
 rows_in_order f n names others [] h = All-nil (λ v. IsVector f (length others) v)
 rows_in_order f n names others (row ∷ rows) h =

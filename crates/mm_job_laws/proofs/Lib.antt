@@ -3,3 +3,7 @@ pub mod OperatorLemmas
 pub mod TreeLemmas
 pub mod SoundLemmas
 pub mod RefusalLemmas
+pub mod QueryLemmas
+pub mod AnswerLemmas
+pub mod VerdictLemmas
+pub mod ItemLemmas

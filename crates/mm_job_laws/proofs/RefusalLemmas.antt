@@ -25,7 +25,7 @@ use Rattle.mm_job_laws.proofs.AgreementLemmas.{same_exactly_where_they_agree}
 use Rattle.mm_job_laws.proofs.SoundLemmas.{lines_are_sound}
 
 -- the header after a query that is built
-abbrev after : Session → List Line → Verdict → Reading Session
+abbrev pub after : Session → List Line → Verdict → Reading Session
 after s rest v = and_then (and_then (now (verdict_refusal v) rest) (λ u. now (Ok s))) (λ s. now (started s))
 
 after_query : (limit : ℕ) (p : Parts) (r : Line) (rest : List Line) (query : Query) → whole (query_line Spelled) r ≡ Ok query → is_built query ≡ true →
@@ -40,7 +40,7 @@ after_query limit p r rest query e b =
     (and_then (now (require built refusal.NotBuilt) rest) (λ u rest. and_then (now (verdict_refusal v) rest) (λ u. now (Ok (session_of limit p query)))))
     (λ s. now (started s))) b
 
-header_after : (limit : ℕ) (rs : List Line) (p : Parts) (r : Line) (rest : List Line) (query : Query) → parts job_rules rs ≡ Read p (r ∷ rest) →
+pub header_after : (limit : ℕ) (rs : List Line) (p : Parts) (r : Line) (rest : List Line) (query : Query) → parts job_rules rs ≡ Read p (r ∷ rest) →
     whole (query_line Spelled) r ≡ Ok query → is_built query ≡ true → header limit rs ≡ after (session_of limit p query) rest (compared p.0.f (given_of p) p.1)
 unfolding header header_lines
 header_after limit rs p r rest query e q b =

@@ -30,7 +30,7 @@ use Rattle.mm_job_laws.proofs.TreeLemmas.{tree_is_valid}
 
 -- ---- names
 
-abbrev AreDifferent : List (List ℕ) → Type 0
+abbrev pub AreDifferent : List (List ℕ) → Type 0
 AreDifferent names = IsDistinct bytes_eq names
 
 one_more_name : (most n : ℕ) (names : List (List ℕ)) (name : List ℕ) → AreDifferent names → IfOk (with_name most n names name) AreDifferent
@@ -44,14 +44,14 @@ more_names most n names [] d = d
 more_names most n names (t ∷ ts) d =
     if_ok AreDifferent AreDifferent (with_name most n names t) _ (one_more_name most n names t d) (λ more e. more_names most n more ts e)
 
-names_stay_different : (most : ℕ) (names : List (List ℕ)) (r : Line) → AreDifferent names → IfOk (elements_line most names r) AreDifferent
+pub names_stay_different : (most : ℕ) (names : List (List ℕ)) (r : Line) → AreDifferent names → IfOk (elements_line most names r) AreDifferent
 unfolding elements_line
 names_stay_different most names r d =
     if_require AreDifferent (list_all is_name (args r)) (refusal.Syntax r.number) _ (λ formed. more_names most r.number names (args r) d)
 
 -- ---- rows
 
-rows_stay_vectors : (f : Field) (n : ℕ) (rows : List (List ℕ)) (r : Line) → AreVectors f n rows → IfOk (row_line f n rows r) (AreVectors f n)
+pub rows_stay_vectors : (f : Field) (n : ℕ) (rows : List (List ℕ)) (r : Line) → AreVectors f n rows → IfOk (row_line f n rows r) (AreVectors f n)
 unfolding row_line
 rows_stay_vectors f n rows r h =
     if_found (AreVectors f n) (one_of (args r)) (refusal.Syntax r.number) _ (λ t one.

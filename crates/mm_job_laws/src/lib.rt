@@ -5,6 +5,14 @@
 ghost use Rattle.mm_job_laws.specs.Agreement.{SameExactlyWhereTheyAgree};
 ghost use Rattle.mm_job_laws.specs.HeaderLaws.{LinesAreSound, OutputRefusesRowsExactly, RowsAreRefusedExactly};
 
+mod answers;
+
+pub use answers::{
+    answer_lines_are_answers, checks_are_answered, headers_give_sessions,
+    items_keep_sessions_sound, query_lines_give_what_they_spell, the_output_answers_checks,
+    the_output_begins_with_the_answer, the_output_names_the_difference, verdicts_are_meant,
+};
+
 /// Given rows and a tree are compared as the same exactly where each has the elements and the row space of the other.
 pub fn compared_says_same_exactly_where_they_agree()
     ensures { SameExactlyWhereTheyAgree }

@@ -1,0 +1,231 @@
+-- What the lines of a job's output mean: the answer to the query, and whether given rows agree with the tree.
+use Rattle.std.specs.Prelude.{◌≡◌, ◌↔◌, ◌⊎◌, ◌≤◌, ◌<◌, ℕ, ◌+◌, Bool, true, false, List, [], ◌∷◌, ◌++◌, length, map, get_or, codes, Option, Some, None, Ok}
+use Rattle.std.specs.List.{IsDistinct}
+use Rattle.std.specs.Str.{bytes_eq}
+use Rattle.mm_field.specs.declared.Field.{Field}
+use Rattle.mm_field.specs.Vectors.{AreVectors, InSpan, IsWithin}
+use Rattle.mm_formula.specs.Scope.{IsScoped, slotted}
+use Rattle.mm_formula.specs.Syntax.{Syntax}
+use Rattle.mm_formula.specs.Variables.{is_var}
+use Rattle.mm_formula_text.specs.Grammar.{IsTextOf}
+use Rattle.mm_header.specs.Header.{Parts, parts}
+use Rattle.mm_header.specs.Queries.{Query, first_of, most_formula, query_line}
+use Rattle.mm_header.specs.Queries.Question.{Spelled}
+use Rattle.mm_header.specs.Rules.{job_rules}
+use Rattle.mm_job.specs.Edits.{block, check_fields, check_names, single}
+use Rattle.mm_job.specs.Header.{Session, header}
+use Rattle.mm_job.specs.Items.{Items, Single, Block, items}
+use Rattle.mm_job.specs.Meaning.{answer_line, least_line}
+use Rattle.mm_job.specs.NotBuilt.{is_built}
+use Rattle.mm_job.specs.Output.{after_reply, output_lines, reply_line}
+use Rattle.mm_job.specs.declared.output_line.OutputLine.{OutputLine}
+use Rattle.mm_job.specs.declared.output_line.OutputLine.TheVariants.{Says, Refuses}
+use Rattle.mm_job_laws.specs.Agreement.{AreAmong, Agrees}
+use Rattle.mm_job_laws.specs.HeaderLaws.{AreSound, given_of, session_of}
+use Rattle.mm_job_text.specs.Arguments.{args, begins}
+use Rattle.mm_job_text.specs.Readers.{Read, whole}
+use Rattle.mm_job_text.specs.declared.refusal.Refusal.TheVariants as refusal
+use Rattle.mm_lines.specs.LineBytes.{bytes_of}
+use Rattle.mm_lines.specs.Lines.{lines}
+use Rattle.mm_lines.specs.Tokens.{rest_of}
+use Rattle.mm_lines.specs.declared.line.Line.{Line}
+use Rattle.mm_logic.specs.Least.{IsLeastSet, Satisfies}
+use Rattle.mm_logic.specs.Marks.{unmarked}
+use Rattle.mm_logic.specs.Meaning.{Holds}
+use Rattle.mm_logic.specs.Tree.{IsValid, size}
+use Rattle.mm_present.specs.Comparing.{Named, compared, in_order, present_rows}
+use Rattle.mm_present.specs.declared.verdict.Verdict.{Verdict}
+use Rattle.mm_present.specs.declared.verdict.Verdict.TheVariants as verdict
+use Rattle.mm_tree.specs.NamedTree.{Tree, shape, element_names, is_one_of, weights}
+use Rattle.mm_tree.specs.ValidTree.{IsValidTree}
+
+-- ---- the query of a line
+
+-- A line that seeks no set begins with `decide`; one that seeks the set X begins with `least X`, and X is a variable.
+abbrev pub Seeks : Line → Option (List ℕ) → Type 0
+Seeks r None = begins (codes "decide") r ≡ true
+Seeks r (Some X) = (begins (codes "least") r ≡ true) × (first_of (args r) ≡ Some X) × (is_var X ≡ true)
+
+-- the text of its formula: all that stands after these words
+abbrev pub formula_text : Line → Option (List ℕ) → List ℕ
+formula_text r None = rest_of 1 (bytes_of r)
+formula_text r (Some X) = rest_of 2 (bytes_of r)
+
+-- A line spells a query: the grammar derives its formula from the text, which has at most 4096 bytes, and it is scoped.
+pub record Spells (r : Line) (query : Query) : Type 0 where
+  pub seeks : Seeks r query.sought
+  pub short : length (formula_text r query.sought) ≤ most_formula
+  pub derived : IsTextOf query.formula (formula_text r query.sought)
+  pub scoped : IsScoped query.formula query.sought
+
+-- A line gives the query that it spells, and else none.
+abbrev pub QueryLinesGiveWhatTheySpell : Type 0
+QueryLinesGiveWhatTheySpell = (r : Line) (query : Query) → (whole (query_line Spelled) r ≡ Ok query) ↔ Spells r query
+
+-- ---- answers
+
+-- the formula holds on the matrix of the tree
+abbrev pub HoldsOn : Field → Syntax → Tree → Type 0
+HoldsOn f F tree = Holds f (slotted [] F) (shape tree) (unmarked (size (shape tree)))
+
+-- `true` where the formula holds, and else `false`
+abbrev pub IsTruth : Field → Syntax → Tree → List ℕ → Type 0
+IsTruth f F tree line = (HoldsOn f F tree × (line ≡ codes "true")) ⊎ ((HoldsOn f F tree → ⊥) × (line ≡ codes "false"))
+
+-- `least` with the weight and the names, in leaf order, of the least set X that satisfies the formula, and `none` where no set does
+abbrev pub IsLeast : Field → List ℕ → Syntax → Tree → List ℕ → Type 0
+IsLeast f X F tree line =
+    ((A : List Bool) × IsLeastSet f (slotted (X ∷ []) F) (shape tree) (weights tree) A × (line ≡ least_line tree (Some A)))
+    ⊎ (((A : List Bool) → length A ≡ size (shape tree) → Satisfies f (slotted (X ∷ []) F) (shape tree) A → ⊥) × (line ≡ codes "none"))
+
+abbrev pub IsAnswerOf : Field → Option (List ℕ) → Syntax → Tree → List ℕ → Type 0
+IsAnswerOf f None F tree line = IsTruth f F tree line
+IsAnswerOf f (Some X) F tree line = IsLeast f X F tree line
+
+-- The line answers the query on the matrix of the tree.
+abbrev pub IsAnswer : Field → Query → Tree → List ℕ → Type 0
+IsAnswer f query tree line = IsAnswerOf f query.sought query.formula tree line
+
+-- The line that is written for a query is its answer, for each query and each tree with a valid shape.
+abbrev pub AnswerLinesAreAnswers : Type 0
+AnswerLinesAreAnswers = (f : Field) (query : Query) (tree : Tree) → IsValid f (shape tree) → IsAnswer f query tree (answer_line f query tree)
+
+-- ---- headers that are read
+
+-- A session is sound where its tree is valid over its field, and its query scoped.
+pub record IsSound (s : Session) : Type 0 where
+  pub tree : IsValidTree s.f s.tree
+  pub scoped : IsScoped s.query.formula s.query.sought
+
+-- The lines of a header, up to the others, give a session: those before the query are not faulty and give its field, its operators
+-- and its tree, the next one spells its query, and the given rows agree with the tree.
+pub record Gives (limit : ℕ) (rs rest : List Line) (s : Session) : Type 0 where
+  pub p : Parts
+  pub r : Line
+  pub read : parts job_rules rs ≡ Read p (r ∷ rest)
+  pub spelled : Spells r s.query
+  pub session : s ≡ session_of limit p s.query
+  pub sound : AreSound p
+  pub agreeing : Agrees p.0.f (given_of p) p.1
+
+-- Where a header is read, its lines give the session, which is sound.
+abbrev pub HeadersGiveSessions : Type 0
+HeadersGiveSessions = (limit : ℕ) (rs rest : List Line) (s : Session) → header limit rs ≡ Read s rest → Gives limit rs rest s × IsSound s
+
+-- some lines begin with the answer to the query of a session
+pub record BeginsWithAnswer (s : Session) (output : List OutputLine) : Type 0 where
+  pub answer : List ℕ
+  pub later : List OutputLine
+  pub first : output ≡ Says answer ∷ later
+  pub is_answer : IsAnswer s.f s.query s.tree answer
+
+-- Where the header of a text is read, the first line of its output answers the query.
+abbrev pub OutputBeginsWithAnswer : Type 0
+OutputBeginsWithAnswer =
+    (limit : ℕ) (text : List ℕ) (rest : List Line) (s : Session) → header limit (lines text) ≡ Read s rest
+    → BeginsWithAnswer s (output_lines text limit)
+
+-- ---- how given rows differ from a tree
+
+-- the first of some names that is not among others: those before it are
+pub record IsFirstMissing (names others : List (List ℕ)) (name : List ℕ) : Type 0 where
+  pub before : List (List ℕ)
+  pub after : List (List ℕ)
+  pub place : names ≡ before ++ name ∷ after
+  pub among : AreAmong before others
+  pub missing : is_one_of name others ≡ false
+
+-- Row number i, counted from 1, is the first of some rows that is outside the row space of others: those before it are inside.
+pub record IsFirstOutside (f : Field) (n : ℕ) (rows others : List (List ℕ)) (i : ℕ) : Type 0 where
+  pub k : ℕ
+  pub number : i ≡ k + 1
+  pub place : k < length rows
+  pub inside : (j : ℕ) → j < k → InSpan f n others (get_or rows j [])
+  pub outside : InSpan f n others (get_or rows k []) → ⊥
+
+-- the given rows, columns matched by name with the tree's
+abbrev pub matched_rows : Named → Tree → List (List ℕ)
+matched_rows given tree = map (in_order given.names (element_names tree)) given.rows
+
+-- the given names and the elements of the tree are the same
+abbrev pub HaveSameElements : Named → Tree → Type 0
+HaveSameElements given tree = AreAmong given.names (element_names tree) × AreAmong (element_names tree) given.names
+
+-- What a verdict says: that both agree; else the first given name that is no element, or, where each is one, the first element that
+-- is not given; else the least given row outside the row space of the tree's matrix; else the least row of that matrix outside the
+-- given row space.
+abbrev pub IsMeant : Field → Named → Tree → Verdict → Type 0
+IsMeant f given tree verdict.Same = Agrees f given tree
+IsMeant f given tree (verdict.Elements name) =
+    IsFirstMissing given.names (element_names tree) name
+    ⊎ (AreAmong given.names (element_names tree) × IsFirstMissing (element_names tree) given.names name)
+IsMeant f given tree (verdict.Given i) =
+    HaveSameElements given tree
+    × IsFirstOutside f (length (element_names tree)) (matched_rows given tree) (present_rows f tree) i
+IsMeant f given tree (verdict.Present j) =
+    HaveSameElements given tree
+    × IsWithin f (length (element_names tree)) (matched_rows given tree) (present_rows f tree)
+    × IsFirstOutside f (length (element_names tree)) (present_rows f tree) (matched_rows given tree) j
+
+-- Given rows with a digit for each of their names, the names all different, and a tree with a valid shape and different elements are
+-- compared by the verdict that is meant.
+abbrev pub VerdictsAreMeant : Type 0
+VerdictsAreMeant =
+    (f : Field) (given : Named) (tree : Tree) → IsValid f (shape tree) → IsDistinct bytes_eq (element_names tree)
+    → IsDistinct bytes_eq given.names → AreVectors f (length given.names) given.rows
+    → IsMeant f given tree (compared f given tree)
+
+-- what a text's output is for a verdict on its rows that is no agreement: one line, which names the difference
+abbrev pub IsRefusalFor : Verdict → List OutputLine → Type 0
+IsRefusalFor verdict.Same output = Unit {0}
+IsRefusalFor (verdict.Elements name) output = output ≡ Refuses (refusal.Elements name) ∷ []
+IsRefusalFor (verdict.Given i) output = output ≡ Refuses (refusal.Given i) ∷ []
+IsRefusalFor (verdict.Present j) output = output ≡ Refuses (refusal.Present j) ∷ []
+
+-- Where no line of a job up to its query is faulty and its rows do not agree with its tree, its output names their first difference.
+abbrev pub OutputNamesTheDifference : Type 0
+OutputNamesTheDifference =
+    (limit : ℕ) (text : List ℕ) (rest : List Line) (r : Line) (p : Parts) (query : Query) → parts job_rules (lines text) ≡ Read p (r ∷ rest)
+    → whole (query_line Spelled) r ≡ Ok query → is_built query ≡ true
+    → (v : Verdict) × IsMeant p.0.f (given_of p) p.1 v × IsRefusalFor v (output_lines text limit)
+
+-- ---- items
+
+-- the sessions and items that are come to, item by item
+pub data ComesTo : Session → Items → Session → Items → Type 0 where
+  begun : {s : Session} {i : Items} → ComesTo s i s i
+  after_line : {s t : Session} {i rest : Items} {r : Line} → ComesTo s i t (Single r rest) → ComesTo s i (after_reply t (single t r)) rest
+  after_block : {s t : Session} {i rest : Items} {r : Line} {rs : List Line} → ComesTo s i t (Block r rs rest)
+      → ComesTo s i (after_reply t (block t r rs)) rest
+
+-- Sessions stay sound, whatever the items are.
+abbrev pub ItemsKeepSessionsSound : Type 0
+ItemsKeepSessionsSound = (s t : Session) (i j : Items) → IsSound s → ComesTo s i t j → IsSound t
+
+-- The lines of a block `check`, none of them faulty, give these names and rows.
+pub record IsCheck (s : Session) (r : Line) (rs : List Line) (given : Named) : Type 0 where
+  pub opened : begins (codes "check") r ≡ true
+  pub alone : check_fields r ≡ Ok tt
+  pub rest : List Line
+  pub read : check_names s.f [] rs ≡ Read given rest
+
+-- `same` where the given rows agree with the tree, and else `differs`
+abbrev pub IsComparison : Session → Named → OutputLine → Type 0
+IsComparison s given line =
+    (Agrees s.f given s.tree × (line ≡ Says (codes "same"))) ⊎ ((Agrees s.f given s.tree → ⊥) × (line ≡ Says (codes "differs")))
+
+-- A check answers whether the given rows agree with the present tree.
+abbrev pub ChecksAreAnswered : Type 0
+ChecksAreAnswered =
+    (s : Session) (r : Line) (rs : List Line) (given : Named) → IsSound s → IsCheck s r rs given → IsComparison s given (reply_line (block s r rs))
+
+-- some lines of an output, and then this line
+abbrev pub HasLine : OutputLine → List OutputLine → Type 0
+HasLine line output = (before after : List OutputLine) × (output ≡ before ++ line ∷ after)
+
+-- Where the items of a text come to a check, its output has the line of that check.
+abbrev pub OutputAnswersChecks : Type 0
+OutputAnswersChecks =
+    (limit : ℕ) (text : List ℕ) (rest : List Line) (s t : Session) (r : Line) (rs : List Line) (given : Named) (more : Items)
+    → header limit (lines text) ≡ Read s rest → ComesTo s (items rest) t (Block r rs more) → IsCheck t r rs given
+    → (line : OutputLine) × IsComparison t given line × HasLine line (output_lines text limit)

@@ -1,0 +1,50 @@
+//! The laws of what is printed: queries, answers and comparisons stand on the relations of the logic and of linear algebra.
+ghost use Rattle.mm_job_laws.specs.AnswerLaws.{AnswerLinesAreAnswers, ChecksAreAnswered, HeadersGiveSessions, ItemsKeepSessionsSound, QueryLinesGiveWhatTheySpell};
+ghost use Rattle.mm_job_laws.specs.AnswerLaws.{OutputAnswersChecks, OutputBeginsWithAnswer, OutputNamesTheDifference, VerdictsAreMeant};
+
+/// A query line gives exactly the query that it spells: the grammar derives its formula from the text of the line, and the formula
+/// is scoped and within its limits.
+pub fn query_lines_give_what_they_spell()
+    ensures { QueryLinesGiveWhatTheySpell }
+{}
+
+/// The line that is written for a query is its answer on the matrix of the tree: whether the formula holds, or the least set.
+pub fn answer_lines_are_answers()
+    ensures { AnswerLinesAreAnswers }
+{}
+
+/// Where a header is read, its lines give a sound session.
+pub fn headers_give_sessions()
+    ensures { HeadersGiveSessions }
+{}
+
+/// Where the header of a text is read, the first line of its output answers the query.
+pub fn the_output_begins_with_the_answer()
+    ensures { OutputBeginsWithAnswer }
+{}
+
+/// Given rows and a tree are compared by the verdict that is meant: they agree, or their first difference.
+pub fn verdicts_are_meant()
+    ensures { VerdictsAreMeant }
+{}
+
+/// Where no line of a job up to its query is faulty and its rows do not agree with its tree, its output names their first
+/// difference.
+pub fn the_output_names_the_difference()
+    ensures { OutputNamesTheDifference }
+{}
+
+/// Sessions stay sound, whatever the items are.
+pub fn items_keep_sessions_sound()
+    ensures { ItemsKeepSessionsSound }
+{}
+
+/// A check answers whether the given rows agree with the present tree.
+pub fn checks_are_answered()
+    ensures { ChecksAreAnswered }
+{}
+
+/// Where the items of a text come to a check, the output has the line that answers it.
+pub fn the_output_answers_checks()
+    ensures { OutputAnswersChecks }
+{}
