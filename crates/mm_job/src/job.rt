@@ -28,7 +28,7 @@ impl Model for Job {
 
     ghost Value = { JobValue };
 
-    ghost use Rattle.mm_job.specs.Kept.{IsJob, state_of};
+    ghost use Rattle.mm_job.specs.State.Kept.{IsJob, state_of};
 
     ghost view = { state_of };
 
@@ -41,7 +41,7 @@ impl Job {
     ghost use Rattle.mm_job.specs.Calls.{Writes};
     ghost use Rattle.mm_job.specs.Jobs.{Grew, GrewByFront, HasJobCause, goes_on, progress, with_piece};
     ghost use Rattle.mm_job.specs.Output.{Over, end_of, output, settled_output, status_of, written_lines};
-    ghost use Rattle.mm_job.specs.Standing.{written_at};
+    ghost use Rattle.mm_job.specs.State.Standing.{written_at};
     ghost use Rattle.mm_job.specs.declared.progress.Progress.TheVariants.{Ended, More};
 
     /// A job with no text so far, with this limit on sizes. It takes no memory yet.

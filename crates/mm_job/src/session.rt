@@ -14,7 +14,7 @@ ghost use Rattle.mm_job.specs.Meaning.{everything};
 ghost use Rattle.mm_logic.specs.PresentMatrix.{is_independent_set};
 ghost use Rattle.mm_tree.specs.NamedTree.{shape};
 ghost use Rattle.mm_job_text.specs.Readers.{Read};
-ghost use Rattle.mm_job.specs.Sessions.{session_of, session_with};
+ghost use Rattle.mm_job.specs.State.Sessions.{session_of, session_with};
 ghost use Rattle.mm_job.specs.declared.output_line.OutputLine.TheVariants.{Says};
 
 use crate::items::says;
