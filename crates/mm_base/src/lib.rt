@@ -16,8 +16,6 @@ mod sink;
 mod source;
 mod status;
 mod steps;
-#[cfg(test)]
-mod tests;
 mod text;
 
 pub use failure::{Failed, NoMemory, SinkFault};

@@ -2,6 +2,7 @@
 use Rattle.std.specs.Prelude.{◌≡◌, ℕ, ◌+◌, ◌≤◌, max, nat_lt, Bool, true, not, List, [], ◌∷◌, ◌++◌, length, map, filter, slice_get, Option, Some, None, if◌then◌else◌}
 use Rattle.std.specs.List.{list_all}
 use Rattle.std.specs.Str.{bytes_eq}
+use Rattle.mm_formula.specs.declared.scope.TheConstants.{MAX_IN_SCOPE, MAX_NODES}
 use Rattle.mm_formula.specs.Variables.{is_set}
 use Rattle.mm_formula.specs.Repeats.{has}
 use Rattle.mm_formula.specs.Syntax.{Syntax, nodes, is_well_sorted}
@@ -50,7 +51,7 @@ fault_of None deep large = if deep then Some TooManyInScope else if large then S
 -- Why a formula with this free variable is not scoped: the first variable that nothing binds, more than 16
 -- binders over an atom, the free variable among them, or more than 512 nodes.
 abbrev pub scope_fault : Syntax → Option (List ℕ) → Option ScopeFault
-scope_fault F free = fault_of (slice_get (unbound (outermost free) F) 0) (nat_lt 16 (length (outermost free) + depth F)) (nat_lt 512 (nodes F))
+scope_fault F free = fault_of (slice_get (unbound (outermost free) F) 0) (nat_lt MAX_IN_SCOPE (length (outermost free) + depth F)) (nat_lt MAX_NODES (nodes F))
 
 -- What is true of a scoped formula: it is well sorted, its free variable is a set variable, each variable has a
 -- binder, and the formula is within the limits.
@@ -58,8 +59,8 @@ pub record IsScoped (F : Syntax) (free : Option (List ℕ)) : Type 0 where
   pub sorted : is_well_sorted F ≡ true
   pub free_is_set : list_all is_set (outermost free) ≡ true
   pub bound : unbound (outermost free) F ≡ []
-  pub in_scope : length (outermost free) + depth F ≤ 16
-  pub size : nodes F ≤ 512
+  pub in_scope : length (outermost free) + depth F ≤ MAX_IN_SCOPE
+  pub size : nodes F ≤ MAX_NODES
 
 -- ---- slots: the number of binders above a binder
 

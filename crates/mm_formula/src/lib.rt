@@ -3,8 +3,6 @@
 
 mod formula;
 mod scope;
-#[cfg(test)]
-mod tests;
 mod var;
 
 pub use formula::{Connective, Formula, Term};

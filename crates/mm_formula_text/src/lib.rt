@@ -6,8 +6,6 @@ mod parser;
 mod printer;
 mod reader;
 mod term;
-#[cfg(test)]
-mod tests;
 mod token;
 
 pub use fault::ReadFault;

@@ -14,7 +14,7 @@ use Rattle.mm_field.proofs.Tables.{one_digit, times-zero, plus-negative, plus_co
 use Rattle.mm_field.proofs.VectorLemmas.{vector_sum_comm, vector_sum_assoc, vector_sum-zeros, zeros-vector_sum, multiple-plus, multiple-zeros, zero-multiple, IsVector-zeros, IsVector-vector_sum, IsVector-multiple}
 use Rattle.mm_field.proofs.CombinationLemmas.{first_row, other_rows, InSpan-within, zeros_twice, take-vector_sum, take-multiple, vector_sum-append, multiple-append, IsVector-combination, combination-append, InSpan-zeros, InSpan-first, InSpan-one_more, InSpan-vector_sum, InSpan-multiple}
 use Rattle.mm_field.proofs.PartLemmas.{combination-map, IsVector-take, IsVector-drop, IsVector-append, AreVectors-map, zeros-append, append_parts}
-use Rattle.mm_linear.proofs.TypeLemmas.{InSum-from_append, append_from_InSum, append_left_in, append_right_in}
+use Rattle.mm_linear.proofs.SpanLemmas.{InSum-from_append, append_from_InSum, append_left_in, append_right_in}
 use Rattle.mm_linear.specs.Decide.{row_for, put_at, new_place, echelon_of, is_independent}
 use Rattle.mm_linear.specs.Echelons.{entry}
 use Rattle.mm_linear.specs.Coordinates.{unit, is_pivot, free_columns, completed, IsBasis}

@@ -1,15 +1,17 @@
 -- Coordinates by independent rows: they combine the rows to the vector, and no other coefficients do.
-use Rattle.std.proofs.Common.{ℕ, zero, suc, ◌<◌, ◌≤◌, ◌≡◌, inl, inr, Bool, true, false, cond, List, [], ◌∷◌, length, refl, sym, ap, ap₂, ◌∙◌, subst, arith}
+use Rattle.std.proofs.Common.{ℕ, zero, suc, ◌<◌, ◌≤◌, ◌≡◌, inl, inr, Bool, true, false, cond, List, [], ◌∷◌, ◌++◌, length, map, get_or, take, drop, refl, sym, ap, ap₂, ◌∙◌, subst, arith}
 use Rattle.std.proofs.lemmas.Bool.{cases_eq}
+use Rattle.std.proofs.lemmas.List.{get_or_append_left, take_at}
 use Rattle.std.proofs.lemmas.List.Elements.{All-nil}
 use Rattle.mm_field.specs.declared.Field.{Field}
 use Rattle.mm_field.specs.Digits.{order, negative}
-use Rattle.mm_field.specs.Vectors.{zeros, vector_sum, multiple, combination, IsVector, AreVectors, InSpan, AreIndependent}
+use Rattle.mm_field.specs.Vectors.{zeros, vector_sum, multiple, combination, times_matrix, IsVector, AreVectors, InSpan, AreIndependent}
 use Rattle.mm_field.proofs.Tables.{zero_digit}
 use Rattle.mm_field.proofs.VectorLemmas.{vector_sum_comm, vector_sum_assoc, vector_sum-zeros, zeros-vector_sum, opposite-vector_sum, IsVector-vector_sum, IsVector-multiple}
-use Rattle.mm_field.proofs.CombinationLemmas.{first_row, other_rows, combination-none, combination-vector_sum, combination-multiple, IsVector-combination}
+use Rattle.mm_field.proofs.CombinationLemmas.{first_row, other_rows, combination-none, combination-vector_sum, combination-multiple, combination-times_matrix, IsVector-combination}
+use Rattle.mm_field.proofs.PartLemmas.{AreVectors-map}
 use Rattle.mm_linear.specs.Decide.{is_in_span}
-use Rattle.mm_linear.specs.Coordinates.{minus_multiple, digit_below, coordinates, IsBasis}
+use Rattle.mm_linear.specs.Coordinates.{minus_multiple, digit_below, coordinates, in_coordinates, IsBasis}
 use Rattle.mm_linear.proofs.SpaceLemmas.{false_true}
 use Rattle.mm_linear.proofs.SubspaceLemmas.{Split, split_first}
 use Rattle.mm_linear.proofs.MeetTest.{is_in_span_decides}
@@ -120,3 +122,31 @@ coordinates_unique f n rows b cs hc =
 pub coordinates_of : (f : Field) (n : ℕ) (rows : List (List ℕ)) → IsBasis f n rows → (x : List ℕ) → IsVector f n x →
     combination f n (coordinates f n rows x) rows ≡ x
 coordinates_of f n rows b x hx = coordinates_combine f n rows x b.each hx (b.all x hx)
+
+-- ---- the coordinates of b times a matrix
+
+coordinates_back : (f : Field) (r : ℕ) (basis g : List (List ℕ)) → IsBasis f r basis → AreVectors f r g →
+    map (times_matrix f r basis) (map (coordinates f r basis) g) ≡ g
+coordinates_back f r basis [] hb hg = refl
+coordinates_back f r basis (x ∷ g) hb hg =
+    ap₂ (λ a b. a ∷ b) (coordinates_of f r basis hb x (first_row f r x g hg)) (coordinates_back f r basis g hb (other_rows f r x g hg))
+
+-- in a basis, the coordinates of b times g are b times the coordinates of the rows of g
+pub coordinates_times_matrix : (f : Field) (r : ℕ) (basis g : List (List ℕ)) (b : List ℕ) → IsBasis f r basis → AreVectors f r g →
+    coordinates f r basis (times_matrix f r g b) ≡ times_matrix f r (map (coordinates f r basis) g) b
+coordinates_times_matrix f r basis g b hb hg =
+    let into : List ℕ → List ℕ = coordinates f r basis in
+    let made : AreVectors f r (map into g) =
+    AreVectors-map f r r into (λ x hx. subst (λ n. IsVector f n (into x)) hb.count (IsVector-coordinates f r basis x)) g hg in
+    ap (λ (rows : List (List ℕ)). coordinates f r basis (combination f r b rows)) (sym (coordinates_back f r basis g hb hg))
+    ∙ ap (coordinates f r basis) (combination-times_matrix f r r b (map into g) basis made hb.each)
+    ∙ coordinates_unique f r basis hb (combination f r b (map into g)) (IsVector-combination f r b (map into g) made)
+
+-- digit k, among the first r, of a column whose first r digits are exchanged for their coordinates
+pub front_digit : (f : Field) (r k : ℕ) (basis : List (List ℕ)) (x y : List ℕ) → length basis ≡ r → length x ≡ r → k < r →
+    get_or (in_coordinates f r basis (x ++ y)) k 0 ≡ get_or (coordinates f r basis x) k 0
+front_digit f r k basis x y hb hx lk =
+    let cs : List ℕ = coordinates f r basis (take r (x ++ y)) in
+    let long : length cs ≡ r = (IsVector-coordinates f r basis (take r (x ++ y))).len ∙ hb in
+    get_or_append_left cs (drop r (x ++ y)) 0 k (subst (λ n. k < n) (sym long) lk)
+    ∙ ap (λ z. get_or (coordinates f r basis z) k 0) (take_at x y r hx)

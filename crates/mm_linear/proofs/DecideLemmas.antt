@@ -7,7 +7,7 @@ use Rattle.mm_field.specs.declared.Field.{Field}
 use Rattle.mm_field.specs.Vectors.{zeros, IsVector, AreVectors, InSpan, AreIndependent, SameRowSpace}
 use Rattle.mm_field.proofs.VectorLemmas.{zeros_from_entries}
 use Rattle.mm_field.proofs.CombinationLemmas.{first_row, other_rows, InSpan-within, InSpan-zeros}
-use Rattle.mm_linear.proofs.LeafLemmas.{none_independent}
+use Rattle.mm_linear.proofs.IndependenceLemmas.{none_independent}
 use Rattle.mm_linear.specs.Echelons.{IsEchelon}
 use Rattle.mm_linear.specs.Eliminate.{residue}
 use Rattle.mm_linear.specs.Decide.{last_place, row_for, put_at, new_place, echelon_of, is_independent}

@@ -1,12 +1,12 @@
 -- A row more keeps rows independent exactly where it is outside their span.
-use Rattle.std.proofs.Common.{ℕ, suc, ◌<◌, ◌≡◌, inl, inr, List, [], ◌∷◌, length, drop, get_or, refl, sym, ap, ap₂, ◌∙◌, subst, arith}
+use Rattle.std.proofs.Common.{ℕ, suc, ◌<◌, ◌≡◌, ◌≢◌, inl, inr, List, [], ◌∷◌, length, drop, get_or, refl, sym, ap, ap₂, ◌∙◌, subst, arith}
 use Rattle.std.proofs.lemmas.Bool.{cases_eq}
-use Rattle.std.proofs.lemmas.List.Elements.{All-cons}
+use Rattle.std.proofs.lemmas.List.Elements.{All-nil, All-cons}
 use Rattle.mm_field.specs.declared.Field.{Field}
 use Rattle.mm_field.specs.Digits.{order, negative, inverse}
 use Rattle.mm_field.specs.Vectors.{zeros, vector_sum, multiple, combination, IsVector, AreVectors, InSpan, AreIndependent}
 use Rattle.mm_field.proofs.Tables.{times_comm, times-inverse, zero_digit, one_digit}
-use Rattle.mm_field.proofs.VectorLemmas.{zeros-vector_sum, opposite-vector_sum, zero-multiple, one-multiple, multiple-times, IsVector-multiple}
+use Rattle.mm_field.proofs.VectorLemmas.{vector_sum-zeros, zeros-vector_sum, opposite-vector_sum, multiple-zeros, zero-multiple, one-multiple, multiple-times, IsVector-multiple, IsVector-zeros}
 use Rattle.mm_field.proofs.CombinationLemmas.{zeros_twice, IsVector-combination, combination-multiple, InSpan-multiple}
 use Rattle.mm_linear.proofs.EchelonLemmas.{zero_not_one}
 use Rattle.mm_linear.proofs.SubspaceLemmas.{from_sum}
@@ -60,3 +60,39 @@ independent_outside f n v vs hv ind p =
     (combination-multiple f n (negative f 1) p.coefficients vs ∙ ap (multiple f (negative f 1)) p.sum)
     ∙ opposite-vector_sum f v ∙ ap zeros hv.len) in
     zero_not_one 1 (ap (λ (xs : List ℕ). get_or xs 0 0) all) refl
+
+-- ---- one row, and none
+
+combination_one : (f : Field) (n c : ℕ) (v : List ℕ) → IsVector f n v → combination f n (c ∷ []) (v ∷ []) ≡ multiple f c v
+combination_one f n c v hv = vector_sum-zeros f n (multiple f c v) (IsVector-multiple f n c v hv.len)
+
+-- one column alone is independent exactly where it is not zero
+pub one_independent : (f : Field) (n : ℕ) (v : List ℕ) → IsVector f n v → v ≢ zeros n → AreIndependent f n (v ∷ [])
+one_independent f n v hv ne [] each s = absurd (let a = each.len in omega arith)
+one_independent f n v hv ne (c ∷ d ∷ ds) each s = absurd (let a = each.len in omega arith)
+one_independent f n v hv ne (c ∷ []) each s =
+    elim (cases_eq c 0) [
+      | inl e ↦ ap (λ x. x ∷ []) e
+      | inr nz ↦ absurd (ne
+          (sym (one-multiple f v hv.digits)
+          ∙ ap (λ a. multiple f a v) (sym (times_comm f (inverse f c) c ∙ times-inverse f c (each.digits 0 0 (omega arith)) nz))
+          ∙ multiple-times f (inverse f c) c v
+          ∙ ap (multiple f (inverse f c)) (sym (combination_one f n c v hv) ∙ s)
+          ∙ multiple-zeros f (inverse f c) n))
+    ]
+
+not_both : (xs ys : List ℕ) → xs ≡ 1 ∷ [] → ys ≡ 0 ∷ [] → xs ≡ ys → ⊥
+not_both xs ys p q e = cc
+
+pub zero_dependent : (f : Field) (n : ℕ) → AreIndependent f n (zeros n ∷ []) → ⊥
+zero_dependent f n ind =
+    let each : IsVector f 1 (1 ∷ []) = record {
+      len = refl;
+      digits = All-cons (λ d. d < order f) 1 [] (one_digit f) (All-nil (λ d. d < order f));
+    } in
+    not_both (1 ∷ []) (zeros 1) refl refl
+    (ind (1 ∷ []) each (combination_one f n 1 (zeros n) (IsVector-zeros f n) ∙ multiple-zeros f 1 n))
+
+pub none_independent : (f : Field) (n : ℕ) → AreIndependent f n []
+none_independent f n [] each s = refl
+none_independent f n (c ∷ cs) each s = absurd (let a = each.len in omega arith)

@@ -1,6 +1,4 @@
-pub mod JoinLemmas
-pub mod TypeLemmas
-pub mod LeafLemmas
+pub mod SpanLemmas
 pub mod EchelonLemmas
 pub mod InsertLemmas
 pub mod StepLemmas
@@ -16,7 +14,6 @@ pub mod BasisLemmas
 pub mod CoordinateLemmas
 pub mod SubspaceTests
 pub mod ChangeLemmas
-pub mod ThirdBoundary
 pub mod PivotLemmas
 pub mod ReducedEchelonLemmas
 pub mod FirstUnits

@@ -5,14 +5,13 @@ use Rattle.std.proofs.lemmas.Bool.{and_parts, and_from, or_cases, both_ways, not
 use Rattle.std.proofs.lemmas.List.Elements.{All-append, All-cons}
 use Rattle.mm_field.specs.declared.Field.{Field}
 use Rattle.mm_field.specs.Vectors.{IsVector, AreVectors, InSpan, IsWithin}
-use Rattle.mm_field.proofs.VectorLemmas.{vector_sum_comm}
 use Rattle.mm_field.proofs.CombinationLemmas.{first_row, other_rows, InSpan-within, InSpan-one_more, IsWithin-itself}
-use Rattle.mm_linear.proofs.TypeLemmas.{InSum-from_append, append_left_in, append_right_in}
+use Rattle.mm_linear.proofs.SpanLemmas.{InSum-from_append, InSum-swapped, append_left_in, append_right_in}
 use Rattle.mm_linear.specs.Decide.{new_place, echelon_of, is_in_span, meets_in_zero}
-use Rattle.mm_linear.specs.Meets.{MeetTrivially}
+use Rattle.mm_linear.specs.Sums.{MeetTrivially, MeetNontrivially}
 use Rattle.mm_linear.proofs.InsertLemmas.{in_span_with_no_residue}
 use Rattle.mm_linear.proofs.SpaceLemmas.{false_true}
-use Rattle.mm_linear.proofs.SubspaceLemmas.{meet_more, meet_fails}
+use Rattle.mm_linear.proofs.SubspaceLemmas.{meet_more, meet_fails, common_of_sum}
 use Rattle.mm_linear.proofs.SumLemmas.{meet_none}
 use Rattle.mm_linear.proofs.DecideLemmas.{IsRowsOf, echelon_of_is, new_place-none, new_is_outside}
 
@@ -71,15 +70,7 @@ one_step f n A S b ha hs hb x y dx dy m dm = (
     or_step true y dx dy meet = refl
     or_step false false dx dy meet = refl
     or_step false true dx dy meet =
-        let sum = InSum-from_append f n S A b ha (dy.0 refl) in
-        absurd (meet_fails f n A S b ha hs hb
-        (record {
-          one = sum.other;
-          other = sum.one;
-          in_first = sum.in_second;
-          in_second = sum.in_first;
-          sum = vector_sum_comm f sum.other sum.one ∙ sum.sum;
-        })
+        absurd (meet_fails f n A S b ha hs hb (InSum-swapped f (InSpan f n S) (InSpan f n A) b (InSum-from_append f n S A b ha (dy.0 refl)))
         (λ q. false_true _ (dx.1 q)) meet)
 
 pub meets_in_zero_decides : (f : Field) (n : ℕ) (A B : List (List ℕ)) → AreVectors f n A → AreVectors f n B →
@@ -93,3 +84,26 @@ meets_in_zero_decides f n A (b ∷ S) ha hb =
     (is_in_span_decides f n S b hs h1)
     (is_in_span_decides f n (S ++ A) b (All-append (λ u. IsVector f n u) S A hs ha) h1)
     (meets_in_zero f n A S) (meets_in_zero_decides f n A S ha hs)
+
+-- where the test fails, some vector other than zero is in both spans
+pub meets_nontrivially : (f : Field) (n : ℕ) (A B : List (List ℕ)) → AreVectors f n A → AreVectors f n B → meets_in_zero f n A B ≡ false →
+    MeetNontrivially n (InSpan f n A) (InSpan f n B)
+unfolding meets_in_zero
+meets_nontrivially f n A [] ha hb e = false_true _ (sym e)
+meets_nontrivially f n A (b ∷ S) ha hb e =
+    go (first_row f n b S hb) (other_rows f n b S hb) (meets_in_zero f n A S) refl (is_in_span f n S b) refl (is_in_span f n (S ++ A) b) refl e
+    (meets_nontrivially f n A S ha (other_rows f n b S hb))
+  where
+    go : IsVector f n b → AreVectors f n S → (m : Bool) → meets_in_zero f n A S ≡ m → (x : Bool) → is_in_span f n S b ≡ x →
+        (y : Bool) → is_in_span f n (S ++ A) b ≡ y → (m && (x || not y)) ≡ false →
+        (meets_in_zero f n A S ≡ false → MeetNontrivially n (InSpan f n A) (InSpan f n S)) →
+        MeetNontrivially n (InSpan f n A) (InSpan f n (b ∷ S))
+    go h1 hs false em x ex y ey e ih =
+        let w = ih em in
+        record { common = w.common; in_first = w.in_first; in_second = InSpan-one_more f n b S w.common h1 hs w.in_second; nonzero = w.nonzero }
+    go h1 hs true em true ex y ey e ih = false_true _ (sym e)
+    go h1 hs true em false ex false ey e ih = false_true _ (sym e)
+    go h1 hs true em false ex true ey e ih =
+        let in_both = (is_in_span_decides f n (S ++ A) b (All-append (λ u. IsVector f n u) S A hs ha) h1).0 ey in
+        common_of_sum f n A S b ha hs h1 (InSum-swapped f (InSpan f n S) (InSpan f n A) b (InSum-from_append f n S A b ha in_both))
+        (λ q. false_true _ (sym ex ∙ (is_in_span_decides f n S b hs h1).1 q))

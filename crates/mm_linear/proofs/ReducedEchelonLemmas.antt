@@ -11,7 +11,7 @@ use Rattle.mm_field.proofs.PartLemmas.{AreVectors-map, zeros-append}
 use Rattle.mm_field.proofs.VectorLemmas.{length-multiple}
 use Rattle.mm_linear.specs.Echelons.{entry, IsEchelon}
 use Rattle.mm_linear.specs.Decide.{echelon_of}
-use Rattle.mm_linear.specs.ReducedEchelon.{Leads, Clear, reversed_rows, reduced_basis, IsLeftBasis}
+use Rattle.mm_linear.specs.ReducedEchelon.{Leads, Clear, reversed_rows, reduced_basis, IsLeftBasis, IsReducedBasis}
 use Rattle.mm_linear.specs.Coordinates.{is_pivot}
 use Rattle.mm_linear.proofs.EchelonLemmas.{echelon_unique, row_at}
 use Rattle.mm_linear.proofs.SubspaceLemmas.{drop_of_end}
@@ -276,3 +276,9 @@ pub pivots_of_basis : (f : Field) (n : ℕ) (g : List (List ℕ)) (h : AreVector
 pivots_of_basis f n g h k l =
     let b = reduced_basis_is f n g h in
     pivots_are_leads f n 0 g (reduced_basis f n g) b.leads h b.each b.span b.echelon k l
+
+-- a reduced echelon basis is its own
+pub reduced_basis-twice : (f : Field) (n : ℕ) (rows : List (List ℕ)) → AreVectors f n rows → IsReducedBasis f n (reduced_basis f n rows)
+reduced_basis-twice f n rows h =
+    let b = reduced_basis_is f n rows h in
+    record { each = b.each; own = sym (reduced_basis-same f n rows (reduced_basis f n rows) h b.each b.span) }

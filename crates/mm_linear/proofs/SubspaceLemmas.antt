@@ -9,11 +9,10 @@ use Rattle.mm_field.specs.Vectors.{zeros, vector_sum, multiple, combination, IsV
 use Rattle.mm_field.proofs.Tables.{times-zero, times_comm, times-inverse}
 use Rattle.mm_field.proofs.VectorLemmas.{vector_sum_assoc, vector_sum-zeros, zeros-vector_sum, opposite-vector_sum, multiple-zeros, zero-multiple, one-multiple, multiple-times, zeros_from_entries, IsVector-multiple}
 use Rattle.mm_field.proofs.CombinationLemmas.{zeros_twice, InSpan-first, combination-append, combination-zeros, IsVector-combination, IsWithin-itself, InSpan-within, InSpan-vector_sum, InSpan-multiple, InSpan-one_more, vector_sum-append, multiple-append}
-use Rattle.mm_linear.specs.Joins.{InSum}
 use Rattle.mm_field.proofs.PartLemmas.{combination-map, zeros-append, append_parts}
 use Rattle.mm_linear.specs.Echelons.{entry, IsEchelon, ZeroFrom, EndsAt}
 use Rattle.mm_linear.specs.Padded.{padded}
-use Rattle.mm_linear.specs.Meets.{MeetTrivially}
+use Rattle.mm_linear.specs.Sums.{InSum, MeetTrivially, MeetNontrivially}
 use Rattle.mm_linear.proofs.EchelonLemmas.{combination_entry_zero, span_is_fixed, echelon_unique, zero_not_one}
 
 pub drop_of_end : (n c : ℕ) (v : List ℕ) → length v ≡ n → EndsAt n c v → drop c v ≡ zeros (n - c)
@@ -201,20 +200,30 @@ meet_more f n A S E b ha hs he hb wa ws out meet z p q =
           (InSpan-multiple f n (negative f 1) E s.rest (InSpan-within f n S E s.rest he ws s.in_rest))))))
     ]
 
--- Where b is in the sum of the spans of A and S and not in that of S, b and S meet A in more than zero.
-pub meet_fails : (f : Field) (n : ℕ) (A S : List (List ℕ)) (b : List ℕ) → AreVectors f n A → AreVectors f n S → IsVector f n b →
-    InSum f (InSpan f n A) (InSpan f n S) b → (InSpan f n S b → ⊥) → MeetTrivially n (InSpan f n A) (InSpan f n (b ∷ S)) → ⊥
-meet_fails f n A S b ha hs hb s out meet =
+-- Where b is in the sum of the spans of A and S and not in that of S, its part along A is other than zero and in both spans.
+pub common_of_sum : (f : Field) (n : ℕ) (A S : List (List ℕ)) (b : List ℕ) → AreVectors f n A → AreVectors f n S → IsVector f n b →
+    InSum f (InSpan f n A) (InSpan f n S) b → (InSpan f n S b → ⊥) → MeetNontrivially n (InSpan f n A) (InSpan f n (b ∷ S))
+common_of_sum f n A S b ha hs hb s out =
     let hone = IsVector-in_span f n A s.one ha s.in_first in
     let hother = IsVector-in_span f n S s.other hs s.in_second in
     let one_is = from_sum f n s.one s.other b hone hother s.sum in
-    let one_in = subst (λ x. InSpan f n (b ∷ S) x) one_is
-    (InSpan-vector_sum f n (b ∷ S) b (multiple f (negative f 1) s.other)
-    (InSpan-first f n b S hb hs)
-    (InSpan-multiple f n (negative f 1) (b ∷ S) s.other (InSpan-one_more f n b S s.other hb hs s.in_second))) in
-    let one_zero = meet s.one s.in_first one_in in
-    out (subst (λ x. InSpan f n S x)
-    (sym (zeros-vector_sum f n s.other hother) ∙ ap (λ x. vector_sum f x s.other) (sym one_zero) ∙ s.sum) s.in_second)
+    record {
+      common = s.one;
+      in_first = s.in_first;
+      in_second =
+          subst (λ x. InSpan f n (b ∷ S) x) one_is
+          (InSpan-vector_sum f n (b ∷ S) b (multiple f (negative f 1) s.other)
+          (InSpan-first f n b S hb hs)
+          (InSpan-multiple f n (negative f 1) (b ∷ S) s.other (InSpan-one_more f n b S s.other hb hs s.in_second)));
+      nonzero = λ zero.
+          out (subst (λ x. InSpan f n S x)
+          (sym (zeros-vector_sum f n s.other hother) ∙ ap (λ x. vector_sum f x s.other) (sym zero) ∙ s.sum) s.in_second);
+    }
+
+pub meet_fails : (f : Field) (n : ℕ) (A S : List (List ℕ)) (b : List ℕ) → AreVectors f n A → AreVectors f n S → IsVector f n b →
+    InSum f (InSpan f n A) (InSpan f n S) b → (InSpan f n S b → ⊥) → MeetTrivially n (InSpan f n A) (InSpan f n (b ∷ S)) → ⊥
+meet_fails f n A S b ha hs hb s out meet =
+    let w = common_of_sum f n A S b ha hs hb s out in w.nonzero (meet w.common w.in_first w.in_second)
 
 -- a row that ends at i is outside the span of the rows after it
 pub outside_later : (f : Field) (n : ℕ) (rows : List (List ℕ)) → IsEchelon f n rows → (i : ℕ) → i < n → entry rows i i ≡ 1 →

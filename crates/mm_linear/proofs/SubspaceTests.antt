@@ -8,15 +8,14 @@ use Rattle.std.proofs.lemmas.List.Elements.{All-nil, All-cons, All-append, All-m
 use Rattle.mm_field.specs.declared.Field.{Field}
 use Rattle.mm_field.specs.Digits.{order}
 use Rattle.mm_field.specs.Vectors.{zeros, vector_sum, multiple, IsVector, AreVectors, InSpan, times_matrix}
-use Rattle.mm_linear.specs.Joins.{Represents}
 use Rattle.mm_field.proofs.VectorLemmas.{multiple-zeros, IsVector-zeros}
 use Rattle.mm_field.proofs.CombinationLemmas.{zeros_twice, combination-vector_sum, combination-multiple, combination-zeros, IsVector-combination, vector_sum-append, multiple-append, InSpan-combination, InSpan-within, IsWithin-itself}
 use Rattle.mm_field.proofs.PartLemmas.{combination-map, AreVectors-map, IsVector-append, zeros-append}
 use Rattle.mm_linear.specs.Decide.{is_in_span}
-use Rattle.mm_linear.specs.ReducedEchelon.{reduced_basis}
-use Rattle.mm_linear.specs.Subspaces.{all_vectors, subspace, boundary_space, preimage}
+use Rattle.mm_linear.specs.ReducedEchelon.{reduced_basis, IsReducedBasis}
+use Rattle.mm_linear.specs.Subspaces.{all_vectors, subspace, head_of_span, preimage}
 use Rattle.mm_linear.proofs.SpaceLemmas.{false_true}
-use Rattle.mm_linear.proofs.ReducedEchelonLemmas.{reduced_basis_is, reduced_basis-same}
+use Rattle.mm_linear.proofs.ReducedEchelonLemmas.{reduced_basis_is, reduced_basis-same, reduced_basis-twice}
 use Rattle.mm_linear.proofs.MeetTest.{is_in_span_decides}
 use Rattle.mm_linear.proofs.BasisLemmas.{IsVector-cons}
 
@@ -142,6 +141,12 @@ subspace-of_rows f t test rows h both =
           subst (λ x. InSpan f t kept x) c.2 (IsWithin-itself f t kept hk c.0 v c.1)),
     )
 
+-- a subspace is given by its reduced echelon basis
+pub subspace_is_reduced : (f : Field) (t : ℕ) (test : List ℕ → Bool) → IsReducedBasis f t (subspace f t test)
+unfolding subspace
+subspace_is_reduced f t test =
+    reduced_basis-twice f t (filter test (all_vectors f t)) (All-filter test (λ v. IsVector f t v) (all_vectors f t) (all_vectors_are f t))
+
 -- tests that agree on vectors give one subspace
 pub subspace_same : (f : Field) (t : ℕ) (p q : List ℕ → Bool) → ((b : List ℕ) → IsVector f t b → p b ≡ q b) →
     subspace f t p ≡ subspace f t q
@@ -174,23 +179,12 @@ IsLinear-times_matrix f t r g h = record {
   zero_kept = combination-zeros f r t g h;
 }
 
-pub boundary_space_is : (f : Field) (t m : ℕ) (columns : List (List ℕ)) → AreVectors f (t + m) columns →
-    SpansSource f t (t + m) (λ b. b ++ zeros m) columns (boundary_space f t m columns)
-unfolding boundary_space
-boundary_space_is f t m columns h = subspace_spans f t (t + m) (λ b. b ++ zeros m) columns (IsLinear-pad f t m) h
+pub head_of_span_is : (f : Field) (t m : ℕ) (columns : List (List ℕ)) → AreVectors f (t + m) columns →
+    SpansSource f t (t + m) (λ b. b ++ zeros m) columns (head_of_span f t m columns)
+unfolding head_of_span
+head_of_span_is f t m columns h = subspace_spans f t (t + m) (λ b. b ++ zeros m) columns (IsLinear-pad f t m) h
 
 pub preimage_is : (f : Field) (t r : ℕ) (g rows : List (List ℕ)) → AreVectors f r g → AreVectors f r rows →
     SpansSource f t r (times_matrix f r g) rows (preimage f t r g rows)
 unfolding preimage
 preimage_is f t r g rows hg h = subspace_spans f t r (times_matrix f r g) rows (IsLinear-times_matrix f t r g hg) h
-
--- the rows that are read off span the boundary space
-pub boundary_space_represents : (f : Field) (t m : ℕ) (columns : List (List ℕ)) → AreVectors f (t + m) columns →
-    Represents f t m columns (boundary_space f t m columns)
-boundary_space_represents f t m columns h =
-    let s = boundary_space_is f t m columns h in
-    record {
-      each = s.each;
-      inside = λ b p. (s.decides b (subst (λ x. IsVector f t x) p.sum (IsVector-combination f t p.coefficients (boundary_space f t m columns) s.each))).0 p;
-      all = λ b hb p. (s.decides b hb).1 p;
-    }

@@ -4,11 +4,11 @@ use Rattle.std.proofs.lemmas.List.{drop_more, drop_all, get_or-replicate}
 use Rattle.std.proofs.lemmas.List.Elements.{All-head, All-tail, All-cons, All-append, All-drop, All-weaker}
 use Rattle.mm_field.specs.declared.Field.{Field}
 use Rattle.mm_field.specs.Vectors.{zeros, multiple, combination, IsVector, AreVectors, InSpan, IsWithin, SameRowSpace}
-use Rattle.mm_field.proofs.VectorLemmas.{vector_sum_comm, multiple-zeros, IsVector-zeros}
+use Rattle.mm_field.proofs.VectorLemmas.{multiple-zeros, IsVector-zeros}
 use Rattle.mm_field.proofs.CombinationLemmas.{IsWithin-itself, IsWithin-within, InSpan-within, InSpan-zeros, InSpan-first, InSpan-one_more}
-use Rattle.mm_linear.proofs.TypeLemmas.{InSum-from_append, append_left_in, append_right_in}
+use Rattle.mm_linear.proofs.SpanLemmas.{InSum-from_append, InSum-swapped, append_left_in, append_right_in}
 use Rattle.mm_linear.specs.Echelons.{entry, IsEchelon}
-use Rattle.mm_linear.specs.Meets.{MeetTrivially}
+use Rattle.mm_linear.specs.Sums.{MeetTrivially}
 use Rattle.mm_linear.proofs.EchelonLemmas.{zero_not_one}
 use Rattle.mm_linear.proofs.SubspaceLemmas.{split_first, meet_more, meet_fails, outside_later, rest_is_all}
 
@@ -86,13 +86,7 @@ meet_refuted f n A B E i h ha p l ne s inside meet =
     let e : i - 1 + 1 ≡ i = omega arith in
     let next = next_rows B i p (omega arith) in
     meet_fails f n A S b ha hs hb
-    (record {
-      one = sum.other;
-      other = sum.one;
-      in_first = sum.in_second;
-      in_second = sum.in_first;
-      sum = vector_sum_comm f sum.other sum.one ∙ sum.sum;
-    })
+    (InSum-swapped f (InSpan f n S) (InSpan f n A) b sum)
     (λ q. outside_later f n B h (i - 1) l' one (subst (λ k. InSpan f n (drop k B) b) (sym e) q))
     (λ z za zs. meet z za
     (InSpan-within f n (drop (i - 1) B) B z h.each

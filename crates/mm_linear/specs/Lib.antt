@@ -1,9 +1,8 @@
 pub mod Echelons
 pub mod Eliminate
 pub mod Decide
-pub mod Meets
 pub mod Padded
 pub mod Coordinates
 pub mod ReducedEchelon
 pub mod Subspaces
-pub mod Joins
+pub mod Sums

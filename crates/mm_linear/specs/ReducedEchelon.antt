@@ -33,3 +33,8 @@ reversed_rows rows (suc j) =
 -- the reduced echelon basis of the span of rows of n digits, from the left
 unfoldable pub reduced_basis : Field → ℕ → List (List ℕ) → List (List ℕ)
 reduced_basis f n rows = reversed_rows (echelon_of f n (map reverse rows)) n
+
+-- rows of n digits that are the reduced echelon basis of their own span
+pub record IsReducedBasis (f : Field) (n : ℕ) (rows : List (List ℕ)) : Type 0 where
+  pub each : AreVectors f n rows
+  pub own : reduced_basis f n rows ≡ rows

@@ -16,9 +16,9 @@ all_vectors f (suc n) = flat_map (λ d. map (λ v. d ∷ v) (all_vectors f n)) (
 unfoldable pub subspace : Field → ℕ → (List ℕ → Bool) → List (List ℕ)
 subspace f t test = reduced_basis f t (filter test (all_vectors f t))
 
--- all b of t digits such that b followed by m zeros is in the span of the columns
-unfoldable pub boundary_space : Field → ℕ → ℕ → List (List ℕ) → List (List ℕ)
-boundary_space f t m columns = subspace f t (λ b. is_in_span f (t + m) columns (b ++ zeros m))
+-- the head of a span: all b of t digits such that b followed by m zeros is in the span of the rows
+unfoldable pub head_of_span : Field → ℕ → ℕ → List (List ℕ) → List (List ℕ)
+head_of_span f t m rows = subspace f t (λ b. is_in_span f (t + m) rows (b ++ zeros m))
 
 -- all b of t digits such that b times g is in the span of the rows
 unfoldable pub preimage : Field → ℕ → ℕ → List (List ℕ) → List (List ℕ) → List (List ℕ)

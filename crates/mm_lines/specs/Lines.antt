@@ -3,6 +3,7 @@ use Rattle.std.specs.Prelude.{ℕ, ◌+◌, Bool, false, not, ◌||◌, ◌==◌
 use Rattle.std.specs.List.{slice_split}
 use Rattle.std.specs.Str.Lines.{strip_carriage_return}
 use Rattle.mm_lines.specs.Tokens.{has_some, tokens}
+use Rattle.mm_lines.specs.declared.TheConstants.{MOST_BYTES, TOO_LONG}
 use Rattle.mm_lines.specs.declared.line.Line.{Line}
 use Rattle.mm_lines.specs.declared.line.LineText.TheVariants.{Whole, TooLong}
 
@@ -10,9 +11,9 @@ use Rattle.mm_lines.specs.declared.line.LineText.TheVariants.{Whole, TooLong}
 abbrev pub is_newline : ℕ → Bool
 is_newline b = b == 10
 
--- A line of 65,537 bytes or more is too long, whatever is in it.
+-- A line of so many bytes or more is too long, whatever is in it.
 abbrev pub is_too_long : List ℕ → Bool
-is_too_long line = nat_le 65537 (length line)
+is_too_long line = nat_le TOO_LONG (length line)
 
 -- A line of blanks alone is passed over, and so is a comment, which begins with `#`.
 abbrev pub is_passed_over : List ℕ → Bool
@@ -45,7 +46,7 @@ lines_of ended text = numbered 1 (closed ended (slice_split is_newline text))
 
 -- At most so many bytes of a text are used.
 abbrev pub most_bytes : ℕ
-most_bytes = 67108864
+most_bytes = MOST_BYTES
 
 -- more bytes than are used
 abbrev pub is_over : List ℕ → Bool

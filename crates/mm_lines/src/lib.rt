@@ -10,13 +10,17 @@
 //! that is passed over is not copied. A framer holds its whole text.
 #![tactic(auto)]
 
+/// The most bytes of a text that are used.
+pub const MOST_BYTES: usize = 67_108_864;
+
+/// The least length of a line that is too long, in bytes before its newline.
+pub const TOO_LONG: usize = 65_537;
+
 mod framer;
 mod laws;
 mod line;
 mod numbers;
 mod place;
-#[cfg(test)]
-mod tests;
 mod token;
 
 pub use framer::Framer;

@@ -4,14 +4,12 @@ ghost use Rattle.std.specs.Str.Lines.{strip_carriage_return};
 ghost use Rattle.mm_lines.specs.Lines.{is_newline, is_passed_over, is_too_long, line_of, most_bytes};
 ghost use Rattle.mm_lines.specs.Places.{Goes, IsPlace, NoNewline, begun, found_in, is_handed_out, lines_from};
 
+use crate::TOO_LONG;
 use crate::line::{Bytes, Line, LineText};
 use crate::token::Tokens;
 use memchr::memchr;
 use mm_base::NoMemory;
 use std::alloc::Global;
-
-/// The least length of a line that is too long.
-const TOO_LONG: usize = 65_537;
 
 /// Where a framer stands: before a line of its stream.
 #[derive(Clone, Copy, Debug)]

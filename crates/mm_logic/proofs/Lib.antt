@@ -3,3 +3,5 @@ pub mod ValueLemmas
 pub mod OccurrenceLemmas
 pub mod BagLemmas
 pub mod GrowthLemmas
+pub mod ChosenLemmas
+mod Examples

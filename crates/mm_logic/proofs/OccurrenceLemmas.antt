@@ -1,8 +1,8 @@
 -- What occurs in a list of types followed by others, and how cells grow.
-use Rattle.std.proofs.Common.{◌≡◌, ◌+◌, ◌≤◌, ℕ, suc, Bool, true, false, not, cond, ◌&&◌, ◌||◌, List, [], ◌∷◌, ◌++◌, map, length, filter, flat_map, sum_by, refl, sym, ap, ◌∙◌, arith}
+use Rattle.std.proofs.Common.{◌≡◌, ◌+◌, ◌≤◌, ℕ, suc, Bool, true, false, not, cond, ◌&&◌, ◌||◌, List, [], ◌∷◌, ◌++◌, map, length, filter, flat_map, sum_by, All, refl, sym, ap, ◌∙◌, arith}
 use Rattle.std.proofs.lemmas.List.{map-append, length-append}
 use Rattle.std.proofs.lemmas.List.Sums.{sum_by-append}
-use Rattle.std.proofs.lemmas.List.Elements.{filter-append, filter_agree}
+use Rattle.std.proofs.lemmas.List.Elements.{filter-append, filter_agree, All-head, All-tail}
 use Rattle.std.proofs.lemmas.Grind.{flat_map-append}
 use Rattle.std.proofs.lemmas.Cmp.{eq_by_cmp_equiv}
 use Rattle.std.proofs.Math.Bool.{and_comm}
@@ -54,6 +54,13 @@ occurrence-splits (AllElem k F) K vs = ap (λ z. (K ++ vs) ∷ z) (ap (occurring
 
 -- ---- cells
 
+-- where each value passes, each is kept
+pub filter_kept : (p : Value → Bool) (vs : List Value) → All (λ v. p v ≡ true) vs → filter p vs ≡ vs
+filter_kept p [] h = refl
+filter_kept p (v ∷ vs) h =
+    ap (λ b. cond b (v ∷ filter p vs) (filter p vs)) (All-head (λ x. p x ≡ true) v vs h)
+    ∙ ap (λ z. v ∷ z) (filter_kept p vs (All-tail (λ x. p x ≡ true) v vs h))
+
 pub filter-filter : (p q : Value → Bool) (vs : List Value) → filter p (filter q vs) ≡ filter (λ v. q v && p v) vs
 filter-filter p q [] = refl
 filter-filter p q (v ∷ vs) = by (q v) (filter-filter p q vs)
@@ -68,11 +75,7 @@ not_or false b = refl
 
 -- needs that `same` is symmetric
 pub distinct-append : ((v w : Value) → same v w ≡ same w v) → (K vs : List Value) → distinct (K ++ vs) ≡ distinct K ++ fresh K vs
-distinct-append flip [] vs = sym (all_kept (distinct vs))
-  where
-    all_kept : (ws : List Value) → filter (λ v. true) ws ≡ ws
-    all_kept [] = refl
-    all_kept (w ∷ ws) = ap (λ z. w ∷ z) (all_kept ws)
+distinct-append flip [] vs = sym (filter_kept (λ v. true) (distinct vs) (λ k d l. refl))
 distinct-append flip (x ∷ K) vs =
     ap (λ z. x ∷ z)
     (ap (filter (λ w. not (same x w))) (distinct-append flip K vs)

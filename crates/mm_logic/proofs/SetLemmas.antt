@@ -1,12 +1,13 @@
 -- Sets as lists that rise: what `normal` keeps, and that two sets with the same members are equal.
-use Rattle.std.proofs.Common.{◌≡◌, Bool, true, false, not, ◌&&◌, ◌||◌, List, [], ◌∷◌, map, refl, sym, ap, ◌∙◌, subst, flat_map}
+use Rattle.std.proofs.Common.{◌≡◌, Bool, true, false, not, ◌&&◌, ◌||◌, List, [], ◌∷◌, map, All, refl, sym, ap, ◌∙◌, subst, flat_map}
 use Rattle.std.specs.List.{list_any, list_all}
 use Rattle.std.specs.Ordering.{is_eq, ordering_reverse, eq_by_cmp}
 use Rattle.std.specs.Cmp.{IsTotalOrder}
 use Rattle.std.specs.FinMap.{IsAntisymmetric}
 use Rattle.std.proofs.lemmas.Cmp.{tied_itself}
 use Rattle.std.proofs.lemmas.List.Folds.{list_any-append}
-use Rattle.std.proofs.Math.Bool.{and-false}
+use Rattle.std.proofs.lemmas.List.Elements.{All-nil, All-cons, All-head, All-tail}
+use Rattle.std.proofs.Math.Bool.{and-false, and-true}
 use Rattle.std.specs.declared.cmp.Ordering.{Ordering}
 use Rattle.std.specs.declared.cmp.Ordering.TheVariants.{Less, Equal, Greater}
 use Rattle.mm_logic.specs.Order.{SameMembers, by_order, insert, normal, Below, Rising}
@@ -35,6 +36,20 @@ list_all-any p (x ∷ xs) = elim (p x) as (λ b. (b && list_all p xs) ≡ not (n
 -- tests that agree everywhere
 pub list_any-same : {A : Type 0} (p q : A → Bool) → ((x : A) → p x ≡ q x) → (xs : List A) → list_any p xs ≡ list_any q xs
 list_any-same p q e xs = λ i. list_any (λ x. e x i) xs
+
+-- what is true of each value is true of each member of their set
+pub All-insert : {A : Type 0} (R : A → A → Ordering) (P : A → Type 0) (v : A) (xs : List A) → P v → All P xs → All P (insert R v xs)
+All-insert R P v [] hv h = All-cons P v [] hv (All-nil P)
+All-insert R P v (w ∷ ws) hv h = by (All-insert R P v ws hv (All-tail P w ws h)) (R v w)
+  where
+    by : All P (insert R v ws) → (r : Ordering) → All P (by_order r (v ∷ w ∷ ws) (w ∷ ws) (w ∷ insert R v ws))
+    by ih Less = All-cons P v (w ∷ ws) hv h
+    by ih Equal = h
+    by ih Greater = All-cons P w (insert R v ws) (All-head P w ws h) ih
+
+pub All-normal : {A : Type 0} (R : A → A → Ordering) (P : A → Type 0) (xs : List A) → All P xs → All P (normal R xs)
+All-normal R P [] h = All-nil P
+All-normal R P (x ∷ xs) h = All-insert R P x (normal R xs) (All-head P x xs h) (All-normal R P xs (All-tail P x xs h))
 
 module _ {A : Type 0} {R : A → A → Ordering} (o : IsTotalOrder R) (exact : IsAntisymmetric R) where
   -- a test of the set with v is the test of v, or of the rest
@@ -89,10 +104,6 @@ module _ {A : Type 0} {R : A → A → Ordering} (o : IsTotalOrder R) (exact : I
   left_out : (p : A → Bool) (x : A) (xs : List A) → Below R x xs → list_any (λ y. p y && not (eq_by_cmp R x y)) xs ≡ list_any p xs
   left_out p x [] h = refl
   left_out p x (y ∷ ys) h = (λ i. (p y && not (is_eq (h.0 i))) || left_out p x ys h.1 i) ∙ ap (λ b. b || list_any p ys) (and-true (p y))
-    where
-      and-true : (b : Bool) → (b && true) ≡ b
-      and-true true = refl
-      and-true false = refl
 
   -- a set whose least value is not the other's is another set
   apart : (x y : A) (xs ys : List A) → R x y ≡ Less → Below R y ys → SameMembers (x ∷ xs) (y ∷ ys) → ⊥

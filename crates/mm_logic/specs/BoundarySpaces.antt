@@ -2,15 +2,23 @@
 use Rattle.std.specs.Prelude.{ℕ, ◌+◌, Bool, true, false, ◌==◌, if◌then◌else◌, List, [], ◌∷◌, ◌++◌, map, length}
 use Rattle.std.specs.List.{list_all}
 use Rattle.mm_field.specs.declared.Field.{Field}
-use Rattle.mm_field.specs.Vectors.{times_matrix}
-use Rattle.mm_linear.specs.Joins.{InBoundary, InImage}
+use Rattle.mm_field.specs.Vectors.{zeros, times_matrix, InSpan}
+use Rattle.mm_linear.specs.Sums.{InImage}
 use Rattle.mm_linear.specs.Decide.{is_independent, is_in_span, meets_in_zero}
-use Rattle.mm_linear.specs.Subspaces.{subspace, boundary_space, preimage}
+use Rattle.mm_linear.specs.Subspaces.{subspace, head_of_span, preimage}
 use Rattle.mm_logic.specs.Operator.{Op, row_length}
 use Rattle.mm_logic.specs.Tree.{Tree, boundary}
 use Rattle.mm_logic.specs.PresentMatrix.{internal, chosen}
 use Rattle.mm_logic.specs.Value.{Value}
 use Rattle.mm_logic.specs.Value.Value.{Dead, Span}
+
+-- For columns of t boundary digits and m internal ones: b followed by m zeros is in their span.
+abbrev pub InBoundary : Field → ℕ → ℕ → List (List ℕ) → List ℕ → Type 0
+InBoundary f t m columns b = InSpan f (t + m) columns (b ++ zeros m)
+
+-- All such b, by their reduced echelon basis.
+abbrev pub boundary_space : Field → ℕ → ℕ → List (List ℕ) → List (List ℕ)
+boundary_space f t m columns = head_of_span f t m columns
 
 -- A vector b of the boundary is in the boundary space of a set of elements where the column with b in the boundary rows and zeros
 -- in the internal rows is a combination of the columns of the set: the boundary space is what the span of the set shows outside.
@@ -21,7 +29,7 @@ InBoundarySpace f T X b = InBoundary f (boundary T) (internal T) (chosen f T X) 
 -- A vector z of the space of a join is in the image of the boundary space of a set of a child where it is b times G1, or G2, for
 -- some b in that boundary space.
 abbrev pub InImageOf : Field → Op → List (List ℕ) → Tree → List Bool → List ℕ → Type 0
-InImageOf f op g T X z = InImage f (boundary T) (internal T) (row_length op) (chosen f T X) g z
+InImageOf f op g T X z = InImage f (boundary T) (row_length op) g (InBoundarySpace f T X) z
 
 -- The boundary space as it is written: by its reduced echelon basis.
 abbrev pub space_of : Field → Tree → List Bool → List (List ℕ)

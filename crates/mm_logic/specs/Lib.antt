@@ -12,6 +12,7 @@ pub mod Types
 pub mod LeafRule
 pub mod JoinRule
 pub mod Acceptance
+pub mod PossibleValues
 pub mod Occurrence
 pub mod RuleValues
 pub mod Growth

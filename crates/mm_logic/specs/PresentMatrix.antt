@@ -1,9 +1,8 @@
 -- The matrix of a tree, by its columns, and independence in it.
-use Rattle.std.specs.Prelude.{◌≡◌, ℕ, ◌+◌, Bool, List, [], ◌∷◌, ◌++◌, map, slice_index}
-use Rattle.std.specs.List.{items_where_true}
+use Rattle.std.specs.Prelude.{◌≡◌, ℕ, ◌+◌, Bool, List, [], ◌∷◌, ◌++◌, map, take, drop, slice_index, slice_index_or}
+use Rattle.std.specs.List.{items_where_true, range_with_len}
 use Rattle.mm_field.specs.declared.Field.{Field}
-use Rattle.mm_field.specs.Vectors.{vector_sum, combination, times_matrix, IsVector, AreIndependent}
-use Rattle.mm_linear.specs.Joins.{left_column, right_column}
+use Rattle.mm_field.specs.Vectors.{zeros, vector_sum, combination, times_matrix, IsVector, AreIndependent}
 use Rattle.mm_linear.specs.Decide.{is_independent}
 use Rattle.mm_linear.specs.Coordinates.{unit, free_columns, completed, coordinates, in_coordinates}
 use Rattle.mm_logic.specs.Operator.{Op, row_length}
@@ -29,6 +28,14 @@ pub record IsColumn (f : Field) (op : Op) (x b y : List ℕ) : Type 0 where
 abbrev pub column_digits : Field → Op → List ℕ → List ℕ
 column_digits f op x = coordinates f (row_length op) (completed f (row_length op) op.g3) x
 
+-- A column of a child has its t boundary digits and then its internal ones. Here it is as a column of the join before its boundary
+-- digits are those of the join: they are a vector of the space of the join, and the other child has m internal rows.
+abbrev pub left_column : Field → ℕ → ℕ → List (List ℕ) → ℕ → List ℕ → List ℕ
+left_column f t r g m v = times_matrix f r g (take t v) ++ (drop t v ++ zeros m)
+
+abbrev pub right_column : Field → ℕ → ℕ → List (List ℕ) → ℕ → List ℕ → List ℕ
+right_column f t r g m v = times_matrix f r g (take t v) ++ (zeros m ++ drop t v)
+
 -- The columns of the matrix of a tree, one for each element in leaf order, each with its boundary digits and then its internal
 -- digits. The one column of an element's leaf is its vector. At a join the boundary digits of a column of the left child times G1,
 -- or of the right child times G2, are a vector x of the space of the join; the column then has b and y of x, its internal digits
@@ -41,9 +48,25 @@ columns f (Join op l r) =
     (map (left_column f op.t1 (row_length op) op.g1 (internal r)) (columns f l)
     ++ map (right_column f op.t2 (row_length op) op.g2 (internal l)) (columns f r))
 
+-- Column i of the matrix of a tree.
+abbrev pub column_of : Field → Tree → ℕ → List ℕ
+column_of f T i = slice_index_or (columns f T) i []
+
+-- Row i of some columns: digit i of each.
+abbrev pub row_of : List (List ℕ) → ℕ → List ℕ
+row_of cs i = map (λ u. slice_index u i) cs
+
+-- The first n rows of some columns.
+abbrev pub first_rows : ℕ → List (List ℕ) → List (List ℕ)
+first_rows n cs = map (row_of cs) (range_with_len 0 n)
+
 -- Row i of the matrix of a tree: the boundary rows come first.
 abbrev pub matrix_row : Field → Tree → ℕ → List ℕ
-matrix_row f T i = map (λ u. slice_index u i) (columns f T)
+matrix_row f T i = row_of (columns f T) i
+
+-- The boundary rows of the matrix of a tree.
+abbrev pub boundary_rows : Field → Tree → List (List ℕ)
+boundary_rows f T = first_rows (boundary T) (columns f T)
 
 -- Internal row i of the matrix of a tree.
 abbrev pub internal_row : Field → Tree → ℕ → List ℕ

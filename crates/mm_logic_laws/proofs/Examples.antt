@@ -2,14 +2,14 @@
 use Rattle.mm_logic.specs.Formula.Formula.{Const, Ind, Not, ExElem}
 use Rattle.mm_logic.specs.StateSize.{state_size}
 use Rattle.mm_logic.specs.StateSize.Query.{Decide}
-use Rattle.mm_logic.specs.BoundarySpaces.{ind_type}
+use Rattle.mm_logic.specs.BoundarySpaces.{ind_type, ind_join}
 use Rattle.std.proofs.Common.{Some, pos, true, false, ◌≡◌, [], ◌∷◌, refl}
 use Rattle.mm_field.specs.declared.Field.TheVariants.{Two, Three, Four, Five}
 use Rattle.mm_field.specs.Digits.{plus, times, negative, inverse}
 use Rattle.mm_linear.specs.Decide.{new_place, echelon_of, is_independent, is_in_span, meets_in_zero}
 use Rattle.mm_linear.specs.ReducedEchelon.{reduced_basis}
 use Rattle.mm_linear.specs.Coordinates.{is_pivot, digit_below, coordinates}
-use Rattle.mm_linear.specs.Subspaces.{all_vectors, subspace, boundary_space, preimage}
+use Rattle.mm_linear.specs.Subspaces.{all_vectors, subspace, head_of_span, preimage}
 use Rattle.mm_logic.specs.Value.Value.{Dead, Span}
 use Rattle.mm_logic.specs.Tree.Tree.{Elem, Void, Join}
 use Rattle.mm_logic.specs.JoinRule.{joined, lettered}
@@ -29,11 +29,11 @@ unfolding coordinates digit_below is_pivot is_in_span new_place echelon_of plus 
 two_columns = refl
 
 both : ind_type Two tree (true ∷ true ∷ []) ≡ Span 1 ((1 ∷ []) ∷ [])
-unfolding coordinates digit_below is_pivot is_in_span new_place echelon_of is_independent boundary_space subspace all_vectors reduced_basis plus times negative inverse
+unfolding coordinates digit_below is_pivot is_in_span new_place echelon_of is_independent head_of_span subspace all_vectors reduced_basis plus times negative inverse
 both = refl
 
 one : ind_type Two tree (true ∷ false ∷ []) ≡ Span 1 []
-unfolding coordinates digit_below is_pivot is_in_span new_place echelon_of is_independent boundary_space subspace all_vectors reduced_basis plus times negative inverse
+unfolding coordinates digit_below is_pivot is_in_span new_place echelon_of is_independent head_of_span subspace all_vectors reduced_basis plus times negative inverse
 one = refl
 
 -- the first boundary of the inner join is the sum of two elements, and a third element closes a circuit with both
@@ -81,5 +81,26 @@ circuit =
     (Elem (1 ∷ []))
 
 size_of_circuit : state_size Two (Decide (Ind (record { whole = true; slots = [] }))) circuit ≡ 8
-unfolding coordinates digit_below is_pivot is_in_span new_place echelon_of is_independent boundary_space subspace all_vectors reduced_basis plus times negative inverse
+unfolding coordinates digit_below is_pivot is_in_span new_place echelon_of is_independent head_of_span subspace all_vectors reduced_basis plus times negative inverse
 size_of_circuit = refl
+
+-- the join rule for two spaces: a line and a line whose images are one line are Dead; lines with other images give the sum's part in G3
+
+abbrev parallel : Op
+parallel = record { t1 = 1; t2 = 1; t3 = 1; c = 0; g1 = (1 ∷ []) ∷ []; g2 = (1 ∷ []) ∷ []; g3 = (1 ∷ []) ∷ [] }
+
+same_line : ind_join Two parallel (Span 1 ((1 ∷ []) ∷ [])) (Span 1 ((1 ∷ []) ∷ [])) ≡ Dead
+unfolding is_in_span new_place echelon_of meets_in_zero plus times negative inverse
+same_line = refl
+
+line_and_zero : ind_join Two parallel (Span 1 ((1 ∷ []) ∷ [])) (Span 1 []) ≡ Span 1 ((1 ∷ []) ∷ [])
+unfolding is_in_span new_place echelon_of meets_in_zero preimage subspace all_vectors reduced_basis plus times negative inverse
+line_and_zero = refl
+
+sum_of_lines : ind_join Two op (Span 1 ((1 ∷ []) ∷ [])) (Span 1 ((1 ∷ []) ∷ [])) ≡ Span 1 ((1 ∷ []) ∷ [])
+unfolding is_in_span new_place echelon_of meets_in_zero preimage subspace all_vectors reduced_basis plus times negative inverse
+sum_of_lines = refl
+
+one_line : ind_join Two op (Span 1 ((1 ∷ []) ∷ [])) (Span 1 []) ≡ Span 1 []
+unfolding is_in_span new_place echelon_of meets_in_zero preimage subspace all_vectors reduced_basis plus times negative inverse
+one_line = refl

@@ -8,7 +8,12 @@ use Rattle.std.proofs.lemmas.List.Elements.{All-nil, All-cons, All-append, All-m
 use Rattle.std.proofs.Math.IntN.{+ℤ_assoc}
 use Rattle.mm_linear.proofs.SubspaceTests.{Contains-map, Contains-filter}
 use Rattle.mm_logic.specs.Tree.Tree.{Join}
-use Rattle.mm_logic_laws.specs.LeastLaws.{LeastSetIsMeant, LeastSetsRestrict, FirstsOfPairs, AnswerOfFirsts}
+use Rattle.mm_linear.proofs.SpaceLemmas.{false_true}
+use Rattle.mm_logic.specs.Formula.{Formula}
+use Rattle.mm_logic.specs.Meaning.{WellSorted}
+use Rattle.mm_logic.specs.Operator.{Op}
+use Rattle.mm_field.specs.declared.Field.{Field}
+use Rattle.mm_logic_laws.specs.LeastLaws.{LeastSetIsMeant, LeastSetsRestrict, FirstsOfPairs, PairsOfFirstsHaveAllTypes, FirstsHaveDifferentTypes, NothingWithoutAcceptedFirst, AnswerOfFirsts}
 use Rattle.mm_logic_laws.proofs.MeaningLemmas.{meaning_decided}
 use Rattle.mm_logic_laws.proofs.SplitLemmas.{length-assign, Singles-set}
 use Rattle.mm_logic_laws.proofs.TypeLemmas.{join_law}
@@ -17,7 +22,7 @@ use Rattle.mm_logic.specs.Acceptance.{accepts}
 use Rattle.mm_logic.specs.JoinRule.{join_type}
 use Rattle.mm_logic.specs.Least.{weight, precedes, IsBefore, IsFirst, AreFirsts, is_before, first_of, first_set, Satisfies, holds_of, least}
 use Rattle.mm_logic.specs.Marks.{Marks, mark, assign, sets, AtMostOne, Singles, unmarked}
-use Rattle.mm_logic.specs.Tree.{size}
+use Rattle.mm_logic.specs.Tree.{Tree, size, IsValid}
 use Rattle.mm_logic.specs.Types.{type_of}
 
 -- X is Y, or before it
@@ -449,17 +454,23 @@ least-set_meant f T ok F ws = (
     nothing none (Some B) e =
         let h = found-is_first ws n p B e in absurd (none B h.size ((says B).0 h.member))
 
+-- the type of a set of each child, put together
+type_of_pair : (f : Field) (op : Op) (l r : Tree) → IsValid f (Join op l r) → (F : Formula) (e : ℕ → Bool) (k : ℕ) → WellSorted (mark k false e) F →
+    (us vs : List Marks) → Singles e (us ++ vs) → length us ≡ size l → length vs ≡ size r →
+    (P Q : List Bool) → length P ≡ size l → length Q ≡ size r →
+    type_of f F (Join op l r) (assign k (P ++ Q) (us ++ vs)) ≡ join_type f F op (type_of f F l (assign k P us)) (type_of f F r (assign k Q vs))
+type_of_pair f op l r ok F e k w us vs s lu lv P Q lp lq =
+    ap (type_of f F (Join op l r)) (assign-append k P Q us vs (lp ∙ sym lu))
+    ∙ join_law f F (mark k false e) op l r (assign k P us) (assign k Q vs) w
+    (Singles-set e k P Q us vs s) (length-assign k P us ∙ lu) (length-assign k Q vs ∙ lv) ok
+
 pub least-restricts : LeastSetsRestrict
 least-restricts f op l r ok F e k w us vs s lu lv ws zs lw v A B la lb h =
     first-restricts ws zs (size l) (size r)
     (λ Z. type_of f F (Join op l r) (assign k Z (us ++ vs)))
     (λ Y. type_of f F l (assign k Y us))
     (λ Y. type_of f F r (assign k Y vs))
-    (join_type f F op)
-    (λ P Q lp lq.
-    ap (type_of f F (Join op l r)) (assign-append k P Q us vs (lp ∙ sym lu))
-    ∙ join_law f F (mark k false e) op l r (assign k P us) (assign k Q vs) w
-    (Singles-set e k P Q us vs s) (length-assign k P us ∙ lu) (length-assign k Q vs ∙ lv) ok)
+    (join_type f F op) (type_of_pair f op l r ok F e k w us vs s lu lv)
     lw v A B la lb h
 
 pub firsts-of-pairs : FirstsOfPairs
@@ -468,12 +479,30 @@ firsts-of-pairs f op l r ok F e k w us vs s lu lv ws zs lw rows sows hr hs A B c
     (λ Z. type_of f F (Join op l r) (assign k Z (us ++ vs)))
     (λ Y. type_of f F l (assign k Y us))
     (λ Y. type_of f F r (assign k Y vs))
-    (join_type f F op)
-    (λ P Q lp lq.
-    ap (type_of f F (Join op l r)) (assign-append k P Q us vs (lp ∙ sym lu))
-    ∙ join_law f F (mark k false e) op l r (assign k P us) (assign k Q vs) w
-    (Singles-set e k P Q us vs s) (length-assign k P us ∙ lu) (length-assign k Q vs ∙ lv) ok)
+    (join_type f F op) (type_of_pair f op l r ok F e k w us vs s lu lv)
     lw rows sows hr hs A B ca cb best
+
+pub pairs_have_all_types : PairsOfFirstsHaveAllTypes
+pairs_have_all_types f op l r ok F e k w us vs s lu lv ws zs rows sows hr hs Z lz =
+    pairs-complete ws zs (size l) (size r)
+    (λ Z. type_of f F (Join op l r) (assign k Z (us ++ vs)))
+    (λ Y. type_of f F l (assign k Y us))
+    (λ Y. type_of f F r (assign k Y vs))
+    (join_type f F op) (type_of_pair f op l r ok F e k w us vs s lu lv)
+    rows sows hr hs Z lz
+
+pub different_types : FirstsHaveDifferentTypes
+different_types ws n type rows h A B ca cb e =
+    let fa = All-contains (λ X. IsFirst ws n (λ Y. type Y ≡ type X) X) rows A h.firsts ca in
+    let fb = All-contains (λ X. IsFirst ws n (λ Y. type Y ≡ type X) X) rows B h.firsts cb in
+    first_unique ws n (λ Y. type Y ≡ type A) A B fa (record { size = fb.size; member = sym e; best = λ Y l q. fb.best Y l (q ∙ e) })
+
+pub nothing_without : NothingWithoutAcceptedFirst
+nothing_without f T ok F ws rows h none A la s =
+    let p = h.complete A la in
+    let marks = assign 0 A (unmarked (size T)) in
+    let holds = accepts-type_of f F T marks ∙ (meaning_decided f T ok F marks).1 s in
+    false_true ⊥ (sym (none p.0 p.1) ∙ ap (accepts F) p.2 ∙ holds)
 
 -- the first of the accepted first sets at the root is the answer
 pub answer-of-firsts : AnswerOfFirsts

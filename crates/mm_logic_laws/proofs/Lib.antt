@@ -1,12 +1,21 @@
+pub mod JoinLemmas
+pub mod RepresentedLemmas
+pub mod ThirdBoundary
 pub mod MatrixLemmas
 pub mod RowLemmas
+pub mod JoinMatrixLemmas
 pub mod SpaceLemmas
+pub mod JoinRuleLemmas
 pub mod MeaningLemmas
 pub mod SplitLemmas
 pub mod SplitLawLemmas
 pub mod TypeLemmas
+pub mod PossibleValueLemmas
 pub mod AcceptLemmas
 pub mod LeastLemmas
+pub mod RowCountLemmas
 pub mod OccurrenceLawLemmas
 pub mod SizeLawLemmas
+pub mod TreeLemmas
+pub mod RuleTypeLemmas
 mod Examples

@@ -6,29 +6,30 @@ use Rattle.std.proofs.lemmas.List.{length-map}
 use Rattle.std.proofs.lemmas.List.Elements.{All-nil, All-cons, All-head, All-tail}
 use Rattle.mm_field.specs.declared.Field.{Field}
 use Rattle.mm_field.specs.Vectors.{zeros, combination, IsVector, AreVectors, AreIndependent}
-use Rattle.mm_linear.specs.Joins.{left_column, right_column, Sides, AreSides}
-use Rattle.mm_linear.proofs.LeafLemmas.{one_independent, zero_dependent, chosen-append, chosen-map}
+use Rattle.mm_logic_laws.proofs.JoinLemmas.{Sides, AreSides}
+use Rattle.mm_linear.proofs.IndependenceLemmas.{one_independent, zero_dependent}
+use Rattle.mm_logic.proofs.ChosenLemmas.{chosen-append, chosen-map}
 use Rattle.mm_field.proofs.CombinationLemmas.{combination-append}
 use Rattle.mm_field.proofs.PartLemmas.{IsVector-take, IsVector-drop, IsVector-append}
 use Rattle.mm_linear.specs.Decide.{is_independent, is_in_span, meets_in_zero}
 use Rattle.mm_linear.specs.Coordinates.{unit, free_columns, completed, coordinates, in_coordinates}
-use Rattle.mm_linear.specs.Subspaces.{boundary_space, preimage}
+use Rattle.mm_linear.specs.Subspaces.{head_of_span, preimage}
 use Rattle.mm_linear.proofs.DecideLemmas.{is_independent_decides, no_rows_independent}
 use Rattle.mm_linear.proofs.BasisLemmas.{completed_is_basis, AreVectors-free}
 use Rattle.mm_linear.proofs.CoordinateLemmas.{IsVector-coordinates, coordinates_of, coordinates_unique}
-use Rattle.mm_linear.proofs.SubspaceTests.{subspace_same, boundary_space_is, preimage_is}
+use Rattle.mm_linear.proofs.SubspaceTests.{subspace_same, head_of_span_is, preimage_is}
 use Rattle.mm_linear.proofs.LeftUnique.{basis_of_reduced}
 use Rattle.mm_linear.proofs.ReducedEchelonLemmas.{reduced_basis_is, reduced_basis-same}
 use Rattle.mm_logic_laws.specs.MatrixLaws.{MatrixHasItsSize, ColumnsSplitOnce}
 use Rattle.mm_logic_laws.specs.SpaceLaws.{IndependenceIsDecided, BoundarySpaceIsMeant, PreimageIsMeant, BasisIsMeant}
-use Rattle.mm_linear.proofs.ThirdBoundary.{IsThird, join_columns, AreVectors-join, join_test, join_space}
+use Rattle.mm_logic_laws.proofs.ThirdBoundary.{IsThird, join_columns, AreVectors-join, join_test, join_space}
 use Rattle.mm_logic.specs.Value.{Value}
 use Rattle.mm_logic.specs.Value.Value.{Dead, Span}
 use Rattle.mm_logic.specs.Tree.Tree.{Elem, Void, Join}
 use Rattle.mm_logic.specs.AtomValues.{is_alive}
-use Rattle.mm_logic.specs.BoundarySpaces.{ind_type, ind_void, ind_value, span_of, ind_elem, images, ind_join}
+use Rattle.mm_logic.specs.BoundarySpaces.{boundary_space, ind_type, ind_void, ind_value, span_of, ind_elem, images, ind_join}
 use Rattle.mm_logic.specs.Operator.{Op, row_length, IsValidOp}
-use Rattle.mm_logic.specs.PresentMatrix.{is_independent_set, internal, columns, chosen}
+use Rattle.mm_logic.specs.PresentMatrix.{is_independent_set, internal, left_column, right_column, columns, chosen}
 use Rattle.mm_logic.specs.Tree.{size, Tree, boundary, IsValid}
 
 -- ---- the columns
@@ -143,7 +144,7 @@ ind_at_join f op l r X Y ok e g =
 -- ---- the leaves
 
 boundary_of_leaf : (f : Field) (t : ℕ) (cs : List (List ℕ)) → boundary_space f t 0 cs ≡ span_of f t cs
-unfolding boundary_space
+unfolding head_of_span
 boundary_of_leaf f t cs =
     subspace_same f t (λ b. is_in_span f (t + 0) cs (b ++ zeros 0)) (λ b. is_in_span f t cs b)
     (λ b hb. ap₂ (λ n x. is_in_span f n cs x) (add-zero t) (append-nil b))
@@ -229,7 +230,7 @@ one_column f op ok x hx =
 
 pub boundary_meant : BoundarySpaceIsMeant
 boundary_meant f T ok X b hb =
-    (boundary_space_is f (boundary T) (internal T) (chosen f T X) (chosen_are f T X ok)).decides b hb
+    (head_of_span_is f (boundary T) (internal T) (chosen f T X) (chosen_are f T X ok)).decides b hb
 
 pub preimage_meant : PreimageIsMeant
 preimage_meant f t r g rows hg h b hb = (preimage_is f t r g rows hg h).decides b hb

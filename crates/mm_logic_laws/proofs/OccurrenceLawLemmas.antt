@@ -1,7 +1,10 @@
 -- What occurs in two lists of types, and what the leaf rule and the join rule give at the places below a type.
-use Rattle.std.proofs.Common.{◌≡◌, ◌⊎◌, ℕ, suc, zero, Bool, true, false, ◌||◌, List, [], ◌∷◌, ◌++◌, map, flat_map, length, get_or, Contains, refl, sym, ap, ◌∙◌, subst, arith, inl, inr}
+use Rattle.std.proofs.Common.{◌≡◌, ◌⊎◌, ◌↔◌, ◌+◌, ℕ, suc, zero, Bool, true, false, ◌||◌, List, [], ◌∷◌, ◌++◌, map, flat_map, length, get_or, Contains, refl, sym, ap, ap₂, ◌∙◌, subst, arith, inl, inr}
 use Rattle.std.specs.List.{list_any}
-use Rattle.std.proofs.lemmas.List.Folds.{list_any-append}
+use Rattle.std.specs.Prelude.{IsTrue}
+use Rattle.std.proofs.lemmas.List.Folds.{list_any-append, Any-from_list_any, list_any-from_Any}
+use Rattle.mm_linear.proofs.SubspaceTests.{same_test}
+use Rattle.mm_logic.proofs.BagLemmas.{bag-same}
 use Rattle.std.proofs.lemmas.List.Elements.{Contains-append_left, Contains-append_right, Contains-append_cases}
 use Rattle.mm_field.specs.declared.Field.{Field}
 use Rattle.mm_logic.specs.Formula.{Formula}
@@ -15,11 +18,11 @@ use Rattle.mm_logic.proofs.SetLemmas.{list_any-map, list_any-flat_map}
 use Rattle.mm_logic.proofs.ValueLemmas.{list_any-collected}
 use Rattle.mm_logic.proofs.GrowthLemmas.{AllSame-append, occurring-same, set-occurs, elem-occurs}
 use Rattle.mm_logic.specs.Value.{Value, members, first, second}
-use Rattle.mm_logic.specs.Occurrence.{occurring, elem_parts}
+use Rattle.mm_logic.specs.Occurrence.{occurring, elem_parts, distinct, own_cells, list_cells, nodes}
 use Rattle.mm_logic.specs.Order.{SameMembers}
 use Rattle.mm_logic.specs.Growth.{beside, AllSame}
 use Rattle.mm_logic.proofs.OccurrenceLemmas.{occurrence-splits, nodes-occurring}
-use Rattle.mm_logic_laws.specs.OccurrenceLaws.{OccursInEither, RuleValuesOccur}
+use Rattle.mm_logic_laws.specs.OccurrenceLaws.{OccursInEither, CellsAreOfWhatOccurs, RuleValuesOccur}
 
 beside_at : (us vs : List (List Value)) (i : ℕ) → length us ≡ length vs → get_or (beside us vs) i [] ≡ get_or us i [] ++ get_or vs i []
 beside_at [] [] i e = refl
@@ -40,6 +43,34 @@ occurs_in_either F K vs node v =
     from_either : (xs ys : List Value) (x : Value) → Contains xs x ⊎ Contains ys x → Contains (xs ++ ys) x
     from_either xs ys x (inl p) = Contains-append_left xs ys x p
     from_either xs ys x (inr p) = Contains-append_right xs ys x p
+
+-- ---- cells depend on which values occur
+
+-- lists in which the same values are have the same members
+same_from_contains : (xs ys : List Value) → ((v : Value) → Contains xs v ↔ Contains ys v) → SameMembers xs ys
+same_from_contains xs ys h p =
+    same_test (IsTrue (list_any p xs)) (IsTrue (list_any p ys)) (list_any p xs) (list_any p ys) ((λ e. e), (λ e. e)) ((λ e. e), (λ e. e))
+    ((λ e. passes xs ys (λ v. (h v).0) e), (λ e. passes ys xs (λ v. (h v).1) e))
+  where
+    passes : (us zs : List Value) → ((v : Value) → Contains us v → Contains zs v) → list_any p us ≡ true → list_any p zs ≡ true
+    passes us zs g e =
+        let a = Any-from_list_any p us e in
+        let b = g a.1 (a.0, a.2, a.3) in
+        list_any-from_Any p zs (b.0, a.1, b.1, b.2, a.4)
+
+cells_same : (Fs : List Formula) (vss wss : List (List Value)) → length Fs ≡ length vss → length Fs ≡ length wss
+    → ((i : ℕ) → SameMembers (get_or vss i []) (get_or wss i [])) → list_cells Fs (map distinct vss) ≡ list_cells Fs (map distinct wss)
+cells_same [] vss wss e g h = refl
+cells_same (F ∷ Fs) [] wss e g h = absurd (omega arith)
+cells_same (F ∷ Fs) (vs ∷ vss) [] e g h = absurd (omega arith)
+cells_same (F ∷ Fs) (vs ∷ vss) (ws ∷ wss) e g h =
+    ap₂ (λ x y. x + y) (bag-same vs ws (h 0) (own_cells F))
+    (cells_same Fs vss wss (omega (arith, e)) (omega (arith, g)) (λ i. h (suc i)))
+
+pub cells_of_what_occurs : CellsAreOfWhatOccurs
+cells_of_what_occurs F vs ws h =
+    cells_same (nodes F) (occurring F vs) (occurring F ws) (nodes-occurring F vs) (nodes-occurring F ws)
+    (λ i. same_from_contains (get_or (occurring F vs) i []) (get_or (occurring F ws) i []) (h i))
 
 -- ---- what the rules give below occurs in their values
 

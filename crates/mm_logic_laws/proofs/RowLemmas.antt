@@ -3,7 +3,6 @@ use Rattle.std.proofs.Common.{◌≡◌, ◌<◌, ℕ, suc, ◌+◌, ◌-◌, Li
 use Rattle.std.proofs.lemmas.List.{length-replicate, map-append, get_or-append-add, get_or_append_left, get_or-drop, get_or-replicate}
 use Rattle.mm_field.specs.declared.Field.{Field}
 use Rattle.mm_field.specs.Vectors.{zeros, combination, AreVectors, times_matrix}
-use Rattle.mm_linear.specs.Joins.{left_column, right_column}
 use Rattle.mm_field.proofs.CombinationLemmas.{IsVector-combination, combination-append}
 use Rattle.mm_field.proofs.PartLemmas.{IsVector-take, IsVector-drop}
 use Rattle.mm_linear.specs.Coordinates.{unit, free_columns, completed, coordinates, in_coordinates}
@@ -16,7 +15,7 @@ use Rattle.mm_linear.proofs.FirstUnits.{combination-first_units, first_units_ind
 use Rattle.mm_logic_laws.specs.MatrixLaws.{InternalRowsArePadded, FormatOneSplitsDigits, FormatOneIsValid, PivotsAreMeant}
 use Rattle.mm_logic_laws.proofs.MatrixLemmas.{length-columns, columns_are}
 use Rattle.mm_logic.specs.Operator.{IsBoundary, row_length}
-use Rattle.mm_logic.specs.PresentMatrix.{internal, columns}
+use Rattle.mm_logic.specs.PresentMatrix.{internal, left_column, right_column, columns}
 use Rattle.mm_logic.specs.Tree.{boundary}
 
 -- ---- by rows

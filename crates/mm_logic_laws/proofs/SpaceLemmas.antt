@@ -1,10 +1,11 @@
 -- Boundary spaces decide independence at a join, whatever its third boundary.
 use Rattle.std.proofs.Common.{◌+◌, ℕ, List, ◌++◌, sym, subst}
 use Rattle.mm_field.specs.Vectors.{zeros, times_matrix, InSpan, AreIndependent}
-use Rattle.mm_linear.specs.Joins.{InImage, InSum}
-use Rattle.mm_linear.specs.Meets.{MeetTrivially}
-use Rattle.mm_linear.proofs.ThirdBoundary.{join_columns, union_independent, union_boundary}
+use Rattle.mm_linear.specs.Sums.{InImage, InSum}
+use Rattle.mm_linear.specs.Sums.{MeetTrivially}
+use Rattle.mm_logic_laws.proofs.ThirdBoundary.{join_columns, union_independent, union_boundary}
 use Rattle.mm_logic.specs.Operator.{row_length}
+use Rattle.mm_logic.specs.BoundarySpaces.{InBoundary}
 use Rattle.mm_logic.specs.Tree.{boundary}
 use Rattle.mm_logic.specs.PresentMatrix.{internal, chosen}
 use Rattle.mm_logic_laws.specs.SpaceLaws.{IndependenceAtJoin, BoundarySpaceAtJoin}
@@ -18,7 +19,7 @@ independence_at_join f op l r ok X Y lx ly =
     let h = sides_of f op l r cs ds ok (chosen_are f l X ok.3) (chosen_are f r Y ok.4) in
     let union = union_independent j h op.t3 op.c op.g3 (third_of f op l r cs ds ok.0) ok.0.first.independent ok.0.second.independent in
     let P : ℕ → ℕ → Type 0 = λ t u. AreIndependent f (t + internal l) cs × AreIndependent f (u + internal r) ds
-    × MeetTrivially (row_length op) (InImage f t (internal l) (row_length op) cs op.g1) (InImage f u (internal r) (row_length op) ds op.g2) in
+    × MeetTrivially (row_length op) (InImage f t (row_length op) op.g1 (InBoundary f t (internal l) cs)) (InImage f u (row_length op) op.g2 (InBoundary f u (internal r) ds)) in
     let there : P op.t1 op.t2 → P (boundary l) (boundary r) = λ p. subst (λ t. P t (boundary r)) (sym ok.1) (subst (λ u. P op.t1 u) (sym ok.2) p) in
     let back : P (boundary l) (boundary r) → P op.t1 op.t2 = λ p. subst (λ t. P t op.t2) ok.1 (subst (λ u. P (boundary l) u) ok.2 p) in
     let Q : List (List ℕ) → ℕ → Type 0 = λ us n. AreIndependent f n us in
@@ -38,7 +39,7 @@ space_at_join f op l r ok X Y lx ly b hb =
     let z = times_matrix f (row_length op) op.g3 b in
     let union = union_boundary j h op.t3 op.c op.g3 (third_of f op l r cs ds ok.0) b hb in
     let P : ℕ → ℕ → Type 0 = λ t u.
-    InSum f (InImage f t (internal l) (row_length op) cs op.g1) (InImage f u (internal r) (row_length op) ds op.g2) z in
+    InSum f (InImage f t (row_length op) op.g1 (InBoundary f t (internal l) cs)) (InImage f u (row_length op) op.g2 (InBoundary f u (internal r) ds)) z in
     let there : P op.t1 op.t2 → P (boundary l) (boundary r) = λ p. subst (λ t. P t (boundary r)) (sym ok.1) (subst (λ u. P op.t1 u) (sym ok.2) p) in
     let back : P (boundary l) (boundary r) → P op.t1 op.t2 = λ p. subst (λ t. P t op.t2) ok.1 (subst (λ u. P (boundary l) u) ok.2 p) in
     let Q : List (List ℕ) → ℕ → Type 0 = λ us n. InSpan f n us (b ++ zeros m) in

@@ -1,10 +1,13 @@
 -- Sets and elements of a join are those of its children, in exactly one way.
-use Rattle.std.proofs.Common.{◌≡◌, ◌<◌, ◌+◌, ℕ, suc, zero, Bool, true, false, List, [], ◌∷◌, ◌++◌, length, take, drop, refl, sym, ap, ◌∙◌, arith}
+use Rattle.std.proofs.Common.{◌≡◌, ◌<◌, ◌≤◌, ◌+◌, ◌-◌, if◌then◌else◌, ltb-true, ℕ, suc, zero, Bool, true, false, List, [], ◌∷◌, ◌++◌, length, take, drop, refl, sym, ap, ◌∙◌, arith}
 use Rattle.std.proofs.lemmas.List.{length-take-le, length-drop, take-append-drop}
+use Rattle.std.proofs.lemmas.Bool.{ltb-false}
 use Rattle.std.proofs.Math.Nat.{zero-add}
+use Rattle.std.specs.Prelude.{nat_lt}
 use Rattle.mm_logic.specs.Marks.{none, only}
 use Rattle.mm_logic.specs.Tree.{size}
-use Rattle.mm_logic_laws.specs.SplitLaws.{SetsSplitOnce, ElementsSplitOnce}
+use Rattle.mm_logic_laws.specs.SplitLaws.ChildElement.{OfLeft, OfRight}
+use Rattle.mm_logic_laws.specs.SplitLaws.{SetsSplitOnce, ChildElement, IsElement, ElementsSplitOnce, SinglesSplitOnce}
 
 same_front : (P Q P' Q' : List Bool) → length P ≡ length P' → P ++ Q ≡ P' ++ Q' → (P ≡ P') × (Q ≡ Q')
 same_front [] Q [] Q' l e = (refl, e)
@@ -44,5 +47,22 @@ only_right (suc n) m i =
     suc_front : (a b : ℕ) → suc a + b ≡ suc (a + b)
     suc_front a b = omega arith
 
+pub singles-split_once : SinglesSplitOnce
+singles-split_once op l r i = ((λ h. only_left (size l) (size r) i h), (λ h. only_right (size l) (size r) i))
+
 pub elements-split_once : ElementsSplitOnce
-elements-split_once op l r i = ((λ h. only_left (size l) (size r) i h), (λ h. only_right (size l) (size r) i))
+elements-split_once op l r k h = go (nat_lt k (size l)) refl
+  where
+    go : (b : Bool) → nat_lt k (size l) ≡ b →
+        IsElement l r k (if b then OfLeft k else OfRight (k - size l))
+        × ((other : ChildElement) → IsElement l r k other → other ≡ (if b then OfLeft k else OfRight (k - size l)))
+    go true e = ((ltb-true k (size l) e, refl), only_place (ltb-true k (size l) e))
+      where
+        only_place : k < size l → (other : ChildElement) → IsElement l r k other → other ≡ OfLeft k
+        only_place below (OfLeft i) p = ap OfLeft (sym p.1)
+        only_place below (OfRight i) p = absurd (omega (arith, p.0, p.1))
+    go false e = ((omega (arith, ltb-false k (size l) e), omega (arith, ltb-false k (size l) e)), only_place (ltb-false k (size l) e))
+      where
+        only_place : size l ≤ k → (other : ChildElement) → IsElement l r k other → other ≡ OfRight (k - size l)
+        only_place above (OfLeft i) p = absurd (omega (arith, p.0, p.1))
+        only_place above (OfRight i) p = ap OfRight (omega (arith, p.1))

@@ -5,7 +5,7 @@ use borrow.Author.Tests.{eqb-true}
 use Rattle.std.specs.List.{list_any}
 use Rattle.std.proofs.lemmas.List.Folds.{list_any-append}
 use Rattle.std.proofs.lemmas.Bool.{or_parts}
-use Rattle.std.proofs.Math.Bool.{or-false}
+use Rattle.std.proofs.Math.Bool.{or-false, or_assoc}
 use Rattle.mm_logic.proofs.SetLemmas.{list_any-map}
 use Rattle.mm_logic.specs.Marks.{Marks, mark, assign, none, sets, singles, AtMostOne, column, Singles}
 
@@ -34,10 +34,6 @@ pub assign_none-append : (k : ℕ) (us vs : List Marks) → assign k (none (leng
 assign_none-append k [] vs = refl
 assign_none-append k (a ∷ us) vs = ap (λ z. mark k false a ∷ z) (assign_none-append k us vs)
 
-or_assoc : (a b c : Bool) → (a || (b || c)) ≡ ((a || b) || c)
-or_assoc true b c = refl
-or_assoc false b c = refl
-
 -- a test of all single elements of a list in two parts
 pub singles-append : (k : ℕ) (p : List Marks → Bool) (us vs : List Marks)
     → list_any (λ X. p (assign k X (us ++ vs))) (singles (length (us ++ vs)))
@@ -50,7 +46,7 @@ singles-append k p (a ∷ us) vs =
     ∙ ap (λ b. p (mark k true a ∷ assign k (none (length us)) us ++ assign k (none (length vs)) vs) || b)
     (singles-append k (λ z. p (mark k false a ∷ z)) us vs
     ∙ ap (λ b. b || list_any (λ Y. p (mark k false a ∷ assign k (none (length us)) us ++ assign k Y vs)) (singles (length vs))) (sym (list_any-map Q (λ X. false ∷ X) (singles (length us)))))
-    ∙ or_assoc (p (mark k true a ∷ assign k (none (length us)) us ++ assign k (none (length vs)) vs)) _ _
+    ∙ sym (or_assoc (p (mark k true a ∷ assign k (none (length us)) us ++ assign k (none (length vs)) vs)) _ _)
 
 -- ---- element variables
 

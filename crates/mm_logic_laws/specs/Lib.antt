@@ -1,6 +1,8 @@
 pub mod MatrixLaws
 pub mod SpaceLaws
 pub mod MeaningLaws
+pub mod ValueLaws
+pub mod TreeLaws
 pub mod SplitLaws
 pub mod LeastLaws
 pub mod OccurrenceLaws

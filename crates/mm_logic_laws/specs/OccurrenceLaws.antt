@@ -25,6 +25,11 @@ abbrev pub CellsGrow : Type 0
 CellsGrow = (F : Formula) (K vs : List Value)
     → (cells F (K ++ vs) ≡ cells F K + missing_cells F (occurring F K) vs) × (cells F K ≤ cells F (K ++ vs))
 
+-- Cells depend only on which values occur: lists of types in which the same values occur at each node have as many cells.
+abbrev pub CellsAreOfWhatOccurs : Type 0
+CellsAreOfWhatOccurs =
+    (F : Formula) (vs ws : List Value) → ((node : ℕ) (v : Value) → Occurs F vs node v ↔ Occurs F ws node v) → cells F vs ≡ cells F ws
+
 -- The values that occur in a type which the leaf rule or the join rule gives are exactly those that the rule gives at the places
 -- below, on the way to it.
 abbrev pub RuleValuesOccur : Type 0

@@ -1,9 +1,8 @@
 -- Independent rows have as many reduced echelon rows.
-use Rattle.std.proofs.Common.{ℕ, zero, suc, ◌+◌, ◌<◌, ◌≤◌, ◌≡◌, ◌⊎◌, inl, inr, Bool, true, false, cond, ◌==◌, List, [], ◌∷◌, length, map, reverse, get_or, refl, sym, ap, ◌∙◌, subst, arith}
+use Rattle.std.proofs.Common.{ℕ, zero, suc, ◌+◌, ◌≤◌, ◌≡◌, ◌⊎◌, inl, inr, cond, ◌==◌, List, [], ◌∷◌, length, map, reverse, get_or, refl, sym, ap, ◌∙◌, subst, arith}
 use Rattle.std.proofs.lemmas.List.{length-map, reverse-reverse, get_or-replicate}
-use Rattle.std.proofs.lemmas.Bool.{eqb-false}
 use Rattle.mm_field.specs.declared.Field.{Field}
-use Rattle.mm_field.specs.Vectors.{zeros, combination, IsVector, AreVectors, AreIndependent}
+use Rattle.mm_field.specs.Vectors.{zeros, combination, AreVectors, AreIndependent}
 use Rattle.mm_linear.specs.Echelons.{entry, IsEchelon}
 use Rattle.mm_linear.specs.Decide.{echelon_of}
 use Rattle.mm_linear.specs.ReducedEchelon.{reversed_rows, reduced_basis}

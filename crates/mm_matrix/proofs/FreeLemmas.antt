@@ -1,5 +1,7 @@
 -- The projections of the unit vectors at the free columns are a basis of the vectors that are orthogonal to reduced rows.
 use Rattle.std.proofs.Common.{ℕ, zero, suc, ◌+◌, ◌-◌, ◌<◌, ◌≤◌, ◌≡◌, ◌≢◌, inl, inr, Bool, true, false, not, cond, List, [], ◌∷◌, ◌++◌, length, map, filter, get_or, refl, sym, ap, ap₂, ◌∙◌, subst, arith, ext_get_or, Contains, zero-add, ◌↔◌}
+use Rattle.std.proofs.Common.{Result, Ok, Err, Vec, Global}
+use Rattle.std.specs.Prelude.{IfOk}
 use Rattle.std.specs.List.{range_with_len, All}
 use Rattle.std.proofs.lemmas.Bool.{cases_eq, both_ways}
 use Rattle.std.proofs.lemmas.List.{length-map, get_or-map, length-replicate, get_or-replicate, get_or_default}
@@ -16,14 +18,15 @@ use Rattle.mm_linear.specs.Coordinates.{unit, is_pivot, free_columns}
 use Rattle.mm_linear.proofs.SubspaceTests.{Contains-filter, Contains-map}
 use Rattle.mm_linear.proofs.EchelonLemmas.{zero_not_one}
 use Rattle.mm_linear.proofs.IndependenceLemmas.{independent_more}
-use Rattle.mm_linear.proofs.LeafLemmas.{none_independent}
+use Rattle.mm_linear.proofs.IndependenceLemmas.{none_independent}
 use Rattle.mm_linear.proofs.PivotLemmas.{pivots_are_leads, count_leads}
 use Rattle.mm_linear.proofs.BasisLemmas.{IsVector-unit, get_or-unit, get_or-unit_other, completed_is_basis, free_count}
 use Rattle.mm_linear.specs.ReducedEchelon.{Leads, reduced_basis}
 use Rattle.mm_linear.proofs.ReducedEchelonLemmas.{reduced_basis_is}
 use Rattle.mm_linear.proofs.LeftUnique.{basis_of_reduced}
 use Rattle.mm_matrix.specs.MatrixValue.{MatrixValue}
-use Rattle.mm_matrix.specs.Residues.{AreReduced}
+use Rattle.mm_matrix.specs.Residues.{AreReduced, IsResidue, IsResidueBy}
+use Rattle.mm_base.specs.declared.failure.NoMemory.{NoMemory}
 use Rattle.mm_matrix.specs.Orthogonal.{dot, IsOrthogonal, IsNullOf, IsOrthogonalBasis}
 use Rattle.mm_matrix.specs.Projections.{units, shares, projected, kernel_vector, kernel_vectors}
 use Rattle.mm_matrix.proofs.DotLemmas.{dot-comm, dot-unit, dot-combination, dot-zeros, all_zero, orthogonal_within}
@@ -32,7 +35,7 @@ use Rattle.mm_matrix.proofs.NullLemmas.{AreVectors-units, IsVector-projected, pr
 
 -- ---- places
 
-range_inside : (n : ℕ) → All (λ k. k < n) (range_with_len 0 n)
+pub range_inside : (n : ℕ) → All (λ k. k < n) (range_with_len 0 n)
 range_inside n = λ i d l.
     let m : i < n = (let e = length-range_with_len 0 n in omega arith) in
     subst (λ (k : ℕ). k < n) (sym (get_or-range_with_len 0 n i d m ∙ zero-add i)) m
@@ -122,6 +125,20 @@ pub is_lead : (f : Field) (n k : ℕ) (rows : List (List ℕ)) (ks : List ℕ) �
 is_lead f n k rows ks h l =
     let it = IsWithin-itself f n rows h.each in
     pivots_are_leads f n 0 rows rows ks h.each h.each (it, it) h.leads_are k l
+
+-- what has 0 at each lead has 0 at each pivot column
+pub residue_by_pivots : (f : Field) (n : ℕ) (rows : List (List ℕ)) (ks v : List ℕ) → AreReduced f n rows ks → (r : Result (Vec ℕ Global) NoMemory) →
+    IfOk r (λ rest. IsResidue f n rows ks v rest.items) → IfOk r (λ rest. IsResidueBy (record { f = f; cols = n; rows = rows }) v rest.items)
+residue_by_pivots f n rows ks v h (Err e) left = tt
+residue_by_pivots f n rows ks v h (Ok rest) left = record {
+  vector = left.vector;
+  part = left.part;
+  inside = left.inside;
+  sum = left.sum;
+  zero = λ k l p.
+      let at = (is_lead f n k rows ks h l).0 p in
+      ap (λ (i : ℕ). get_or rest.items i 0) (sym at.2) ∙ left.zero at.0 k at.1;
+}
 
 projection_in_span : (f : Field) (n k : ℕ) (rows : List (List ℕ)) (ks : List ℕ) → AreReduced f n rows ks → k < n →
     InSpan f n (kernel_vectors f n rows ks) (kernel_vector f n rows ks k)

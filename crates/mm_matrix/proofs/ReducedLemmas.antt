@@ -1,5 +1,5 @@
 -- Reduced rows after one more vector: they are the reduced echelon basis of the larger span.
-use Rattle.std.proofs.Common.{ℕ, zero, suc, ◌+◌, ◌<◌, ◌≡◌, ◌≢◌, inl, inr, List, [], ◌∷◌, ◌++◌, length, get_or, take, refl, sym, ap, ◌∙◌, subst, arith}
+use Rattle.std.proofs.Common.{ℕ, suc, ◌+◌, ◌<◌, ◌≡◌, ◌≢◌, inl, inr, List, [], ◌∷◌, ◌++◌, length, get_or, take, refl, sym, ap, ◌∙◌, subst, arith}
 use Rattle.std.proofs.Math.Nat.{eq-or-lt_of_le}
 use Rattle.std.proofs.Common.{ext_get_or, Vec, Global, ◌↔◌, Bool, true, false, not, Option, Some, None, rules}
 use Rattle.std.specs.Bool.{IsTrue}
@@ -9,11 +9,11 @@ use Rattle.std.specs.Vec.{with_items}
 use Rattle.std.proofs.lemmas.List.{get_or-replicate, get_or-take, length-take-le, length-replicate, take_more, get_or_append_left, get_or_push, length-append, with_items_is}
 use Rattle.std.proofs.lemmas.List.Elements.{All-cons, All-nil, All-append}
 use Rattle.mm_field.specs.declared.Field.{Field}
-use Rattle.mm_field.specs.Digits.{times, inverse}
-use Rattle.mm_field.specs.Vectors.{zeros, multiple, IsVector, AreVectors, InSpan, IsWithin, SameRowSpace}
+use Rattle.mm_field.specs.Digits.{times, inverse, negative}
+use Rattle.mm_field.specs.Vectors.{zeros, vector_sum, multiple, IsVector, AreVectors, InSpan, IsWithin, SameRowSpace}
 use Rattle.mm_field.proofs.Tables.{times-zero, times_comm, times-inverse}
-use Rattle.mm_field.proofs.VectorLemmas.{length-multiple, one-multiple, multiple-times, IsVector-multiple, get_or-multiple}
-use Rattle.mm_field.proofs.CombinationLemmas.{InSpan-multiple, InSpan-first, InSpan-zeros, InSpan-within, IsWithin-itself, IsWithin-within}
+use Rattle.mm_field.proofs.VectorLemmas.{length-multiple, one-multiple, multiple-times, IsVector-multiple, get_or-multiple, opposite-vector_sum, vector_sum_assoc, vector_sum-zeros}
+use Rattle.mm_field.proofs.CombinationLemmas.{InSpan-multiple, InSpan-first, InSpan-zeros, InSpan-within, IsWithin-itself, IsWithin-within, InSpan-one_more, InSpan-vector_sum, IsVector-combination}
 use Rattle.mm_linear.specs.ReducedEchelon.{Leads, reduced_basis}
 use Rattle.mm_linear.proofs.BasisLemmas.{ended, length-ended}
 use Rattle.mm_linear.proofs.PivotLemmas.{last-ended}
@@ -75,12 +75,25 @@ new_of_rest f n p rows ks v u leads rest at = record {
 
 -- ---- spans
 
+-- the vector and its rest, each in the span of the other and the rows
 rest_span : (f : Field) (n : ℕ) (rows : List (List ℕ)) (ks v u : List ℕ) → AreVectors f n rows → IsVector f n v → IsResidue f n rows ks v u →
     SameRowSpace f n (v ∷ rows) (u ∷ rows)
-rest_span f n rows ks v u h hv rest = (
-  All-cons (λ x. InSpan f n (u ∷ rows) x) v rows rest.back (more_within f n u rows rest.vector h),
-  All-cons (λ x. InSpan f n (v ∷ rows) x) u rows rest.there (more_within f n v rows hv h),
-)
+rest_span f n rows ks v u h hv rest =
+    let hp = subst (λ w. IsVector f n w) rest.inside.sum (IsVector-combination f n rest.inside.coefficients rows h) in
+    let minus = multiple f (negative f 1) rest.part in
+    let back : vector_sum f u minus ≡ v =
+    ap (λ w. vector_sum f w minus) (sym rest.sum) ∙ vector_sum_assoc f v rest.part minus
+    ∙ ap (vector_sum f v) (opposite-vector_sum f rest.part ∙ ap zeros hp.len) ∙ vector_sum-zeros f n v hv in (
+      All-cons (λ x. InSpan f n (u ∷ rows) x) v rows
+          (subst (λ w. InSpan f n (u ∷ rows) w) back
+          (InSpan-vector_sum f n (u ∷ rows) u minus (InSpan-first f n u rows rest.vector h)
+          (InSpan-multiple f n (negative f 1) (u ∷ rows) rest.part (InSpan-one_more f n u rows rest.part rest.vector h rest.inside))))
+          (more_within f n u rows rest.vector h),
+      All-cons (λ x. InSpan f n (v ∷ rows) x) u rows
+          (subst (λ w. InSpan f n (v ∷ rows) w) rest.sum
+          (InSpan-vector_sum f n (v ∷ rows) v rest.part (InSpan-first f n v rows hv h) (InSpan-one_more f n v rows rest.part hv h rest.inside)))
+          (more_within f n v rows hv h),
+    )
 
 scaled_span : (f : Field) (n p : ℕ) (rows : List (List ℕ)) (u : List ℕ) → AreVectors f n rows → IsVector f n u → IsFirstAt n p u →
     SameRowSpace f n (u ∷ rows) (scaled f p u ∷ rows)
@@ -108,12 +121,12 @@ span_trans f n A B C ha hc p q = (IsWithin-within f n A B C hc p.0 q.0, IsWithin
 -- ---- what a vector adds to reduced rows
 
 -- a vector without a rest adds nothing
-pub nothing_new : (f : Field) (n : ℕ) (rows : List (List ℕ)) (ks v u : List ℕ) → AreVectors f n rows →
+pub nothing_new : (f : Field) (n : ℕ) (rows : List (List ℕ)) (ks v u : List ℕ) → AreVectors f n rows → IsVector f n v →
     IsResidue f n rows ks v u → u ≡ zeros n → InSpan f n rows v
-nothing_new f n rows ks v u h rest z =
+nothing_new f n rows ks v u h hv rest z =
     InSpan-within f n (zeros n ∷ rows) rows v h
     (All-cons (λ x. InSpan f n rows x) (zeros n) rows (InSpan-zeros f n rows h) (IsWithin-itself f n rows h))
-    (subst (λ x. InSpan f n (x ∷ rows) v) z rest.back)
+    (subst (λ x. InSpan f n (x ∷ rows) v) z ((rest_span f n rows ks v u h hv rest).0 0 [] (omega arith)))
 
 -- a vector with a rest adds what the scaled rest adds
 pub adds_as_rest : (f : Field) (n p : ℕ) (rows : List (List ℕ)) (ks v u : List ℕ) → AreReduced f n rows ks → IsVector f n v →

@@ -2,18 +2,16 @@
 use Rattle.std.proofs.Common.{ℕ, zero, suc, ◌+◌, ◌<◌, ◌≡◌, List, [], ◌∷◌, length, get_or, sym, ap, ◌∙◌, subst, arith, inl, inr}
 use Rattle.std.proofs.Math.Nat.{eq-or-lt_of_le}
 use Rattle.std.proofs.lemmas.List.{get_or-replicate, get_or_default}
-use Rattle.std.proofs.lemmas.List.Elements.{All-cons}
 use Rattle.mm_field.specs.declared.Field.{Field}
 use Rattle.mm_field.specs.Digits.{times, negative}
 use Rattle.mm_field.specs.Vectors.{zeros, vector_sum, multiple, IsVector, AreVectors, InSpan}
 use Rattle.mm_field.proofs.Tables.{times-zero}
-use Rattle.mm_field.proofs.VectorLemmas.{vector_sum_assoc, vector_sum-zeros, opposite-vector_sum, length-multiple, IsVector-vector_sum, sum_entry}
-use Rattle.mm_field.proofs.CombinationLemmas.{InSpan-vector_sum, InSpan-multiple, InSpan-first, InSpan-within}
+use Rattle.mm_field.proofs.VectorLemmas.{vector_sum_assoc, vector_sum-zeros, length-multiple, IsVector-vector_sum, sum_entry}
+use Rattle.mm_field.proofs.CombinationLemmas.{InSpan-vector_sum, InSpan-multiple, InSpan-zeros, IsWithin-itself}
 use Rattle.mm_linear.specs.ReducedEchelon.{Leads}
 use Rattle.mm_linear.proofs.BasisLemmas.{ended}
 use Rattle.mm_linear.proofs.PivotLemmas.{last-ended, late_rows, count_leads, entry_of_cut}
 use Rattle.mm_linear.proofs.LeftUnique.{leads_above}
-use Rattle.mm_linear.proofs.SumLemmas.{more_within}
 use Rattle.mm_linear.proofs.InsertLemmas.{cleared_at, sum_of_zeros}
 use Rattle.mm_matrix.specs.Residues.{IsResidue}
 
@@ -36,30 +34,23 @@ zero_at_earlier n from (v ∷ vs) (x ∷ ks) h zero (suc i) m l =
     ∙ get_or-replicate (suc x) x 0 0 (omega arith)
 zero_at_earlier n from (v ∷ vs) (x ∷ ks) h (suc k) (suc i) m l = zero_at_earlier n (suc x) vs ks h.3 k i (omega arith) (omega arith)
 
--- ---- a sum with a multiple, and back
-
-pub sum_and_back : (f : Field) (n c : ℕ) (v r : List ℕ) → IsVector f n v → length r ≡ n →
-    vector_sum f (vector_sum f v (multiple f c r)) (multiple f (negative f 1) (multiple f c r)) ≡ v
-sum_and_back f n c v r hv lr =
-    vector_sum_assoc f v (multiple f c r) (multiple f (negative f 1) (multiple f c r))
-    ∙ ap (λ x. vector_sum f v x) (opposite-vector_sum f (multiple f c r) ∙ ap zeros (length-multiple f c r ∙ lr))
-    ∙ vector_sum-zeros f n v hv
-
 -- ---- one step of the reduction
 
 -- what holds of a vector after the first i rows
 pub record IsResidueUpTo (f : Field) (n : ℕ) (rows : List (List ℕ)) (ks : List ℕ) (v rest : List ℕ) (i : ℕ) : Type 0 where
   pub vector : IsVector f n rest
-  pub back : InSpan f n (rest ∷ rows) v
-  pub there : InSpan f n (v ∷ rows) rest
+  pub part : List ℕ
+  pub inside : InSpan f n rows part
+  pub sum : vector_sum f v part ≡ rest
   pub zero : (k : ℕ) → k < i → get_or rest (get_or ks k 0) 0 ≡ 0
 
 pub rest_at_start : (f : Field) (n : ℕ) (rows : List (List ℕ)) (ks v : List ℕ) → AreVectors f n rows → IsVector f n v →
     IsResidueUpTo f n rows ks v v 0
 rest_at_start f n rows ks v h hv = record {
   vector = hv;
-  back = InSpan-first f n v rows hv h;
-  there = InSpan-first f n v rows hv h;
+  part = zeros n;
+  inside = InSpan-zeros f n rows h;
+  sum = vector_sum-zeros f n v hv;
   zero = λ k l. absurd (omega arith);
 }
 
@@ -75,20 +66,11 @@ rest_step f n i rows ks v u h leads hv l rest =
     let lc = count_leads n 0 rows ks leads in
     let next = vector_sum f u (multiple f c r) in
     let hn : IsVector f n next = IsVector-vector_sum f n u (multiple f c r) rest.vector.len (lm ∙ hr.len) in
-    let old_rows = All-cons (λ w. IsVector f n w) v rows hv h in
-    let new_rows = All-cons (λ w. IsVector f n w) next rows hn h in
-    let row_in_new : InSpan f n (next ∷ rows) r = more_within f n next rows hn h i [] l in
-    let row_in_old : InSpan f n (v ∷ rows) r = more_within f n v rows hv h i [] l in
-    let u_in_new : InSpan f n (next ∷ rows) u =
-    subst (λ w. InSpan f n (next ∷ rows) w) (sum_and_back f n c u r rest.vector hr.len)
-    (InSpan-vector_sum f n (next ∷ rows) next (multiple f (negative f 1) (multiple f c r)) (InSpan-first f n next rows hn h)
-    (InSpan-multiple f n (negative f 1) (next ∷ rows) (multiple f c r) (InSpan-multiple f n c (next ∷ rows) r row_in_new))) in
     record {
       vector = hn;
-      back =
-          InSpan-within f n (u ∷ rows) (next ∷ rows) v new_rows
-          (All-cons (λ w. InSpan f n (next ∷ rows) w) u rows u_in_new (more_within f n next rows hn h)) rest.back;
-      there = InSpan-vector_sum f n (v ∷ rows) u (multiple f c r) rest.there (InSpan-multiple f n c (v ∷ rows) r row_in_old);
+      part = vector_sum f rest.part (multiple f c r);
+      inside = InSpan-vector_sum f n rows rest.part (multiple f c r) rest.inside (InSpan-multiple f n c rows r (IsWithin-itself f n rows h i [] l));
+      sum = sym (vector_sum_assoc f v rest.part (multiple f c r)) ∙ ap (λ x. vector_sum f x (multiple f c r)) rest.sum;
       zero = λ k m. at_lead f n i rows ks u leads rest.vector hr.len l rest.zero k m;
     }
   where
@@ -116,7 +98,8 @@ pub rest_at_end : (f : Field) (n : ℕ) (rows : List (List ℕ)) (ks v rest : Li
     IsResidueUpTo f n rows ks v rest (length rows) → IsResidue f n rows ks v rest
 rest_at_end f n rows ks v rest leads h = record {
   vector = h.vector;
-  back = h.back;
-  there = h.there;
+  part = h.part;
+  inside = h.inside;
+  sum = h.sum;
   zero = λ k d l. ap (λ (x : ℕ). get_or rest x 0) (get_or_default ks k d 0 l) ∙ h.zero k (let e = count_leads n 0 rows ks leads in omega arith);
 }

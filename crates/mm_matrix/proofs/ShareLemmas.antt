@@ -1,20 +1,19 @@
 -- Shares that are added one by one.
-use Rattle.std.proofs.Common.{ℕ, zero, suc, ◌+◌, ◌-◌, ◌<◌, ◌≤◌, ◌≡◌, Bool, true, false, not, cond, List, [], ◌∷◌, ◌++◌, length, map, filter, get_or, drop, take, refl, sym, ap, ap₂, ◌∙◌, subst, arith, add-zero, zero-add}
-use Rattle.std.specs.List.{range_with_len, All}
+use Rattle.std.proofs.Common.{ℕ, zero, suc, ◌+◌, ◌-◌, ◌<◌, ◌≤◌, ◌≡◌, Bool, true, false, not, cond, List, [], ◌∷◌, ◌++◌, length, map, filter, get_or, drop, refl, sym, ap, ap₂, ◌∙◌, arith, add-zero, zero-add}
+use Rattle.std.specs.List.{range_with_len}
 use Rattle.std.proofs.Math.ListN.{set}
 use Rattle.std.proofs.Math.Seq.{drop-cons}
 use Rattle.std.proofs.lemmas.List.{length-map, get_or-map, drop_all, map-append}
 use Rattle.std.proofs.lemmas.List.Elements.{filter-append}
 use Rattle.std.proofs.lemmas.List.Elements.{All-head, All-tail}
 use Rattle.mm_field.specs.declared.Field.{Field}
-use Rattle.mm_field.specs.Digits.{order, plus, times, negative}
-use Rattle.mm_field.specs.Vectors.{zeros, vector_sum, multiple, combination, AreDigits, IsVector, AreVectors}
+use Rattle.mm_field.specs.Digits.{order, plus, negative}
+use Rattle.mm_field.specs.Vectors.{zeros, vector_sum, multiple, combination, AreDigits, IsVector}
 use Rattle.mm_field.proofs.Tables.{times-zero, times_one_digit, plus_zero_digit}
 use Rattle.mm_field.proofs.VectorLemmas.{vector_sum_assoc, vector_sum-zeros, multiple-zeros}
-use Rattle.mm_field.proofs.CombinationLemmas.{combination-none}
 use Rattle.mm_linear.specs.Coordinates.{unit, is_pivot}
 use Rattle.mm_matrix.specs.Orthogonal.{dot}
-use Rattle.mm_matrix.specs.Projections.{units, shares, projected, kernel_vector, kernel_vector_at, left}
+use Rattle.mm_matrix.specs.Projections.{units, shares, kernel_vector, kernel_vector_at, left}
 use Rattle.mm_matrix.proofs.DotLemmas.{unit_later}
 
 pub share_added : (f : Field) (c k : ℕ) (row : List ℕ) → c < order f → AreDigits f row → k < length row →

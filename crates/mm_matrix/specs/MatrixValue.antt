@@ -1,5 +1,5 @@
 -- A matrix as contracts see it: a field, a number of columns, and rows of that many digits.
-use Rattle.std.specs.Prelude.{ℕ, List, map}
+use Rattle.std.specs.Prelude.{ℕ, List}
 use Rattle.mm_field.specs.declared.Field.{Field}
 use Rattle.mm_field.specs.Vectors.{AreVectors, SameRowSpace}
 

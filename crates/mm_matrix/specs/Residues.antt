@@ -1,8 +1,10 @@
 -- Steps of elimination: rows in reduced form, what is left of a vector without its part along them, and a row that is new to them.
-use Rattle.std.specs.Prelude.{ℕ, suc, ◌≡◌, ◌<◌, ◌≤◌, List, [], ◌∷◌, ◌++◌, take, length, slice_index, All}
+use Rattle.std.specs.Prelude.{ℕ, suc, ◌≡◌, ◌<◌, ◌≤◌, true, List, [], ◌∷◌, ◌++◌, take, length, slice_index, All}
 use Rattle.mm_field.specs.declared.Field.{Field}
-use Rattle.mm_field.specs.Vectors.{zeros, IsVector, AreVectors, InSpan, SameRowSpace}
+use Rattle.mm_field.specs.Vectors.{zeros, vector_sum, IsVector, AreVectors, InSpan, SameRowSpace}
+use Rattle.mm_linear.specs.Coordinates.{is_pivot}
 use Rattle.mm_linear.specs.ReducedEchelon.{Leads, Clear}
+use Rattle.mm_matrix.specs.MatrixValue.{MatrixValue}
 
 -- rows of n digits in reduced echelon form, and their leads: the places of their first digits other than 0
 pub record AreReduced (f : Field) (n : ℕ) (rows : List (List ℕ)) (leads : List ℕ) : Type 0 where
@@ -10,12 +12,21 @@ pub record AreReduced (f : Field) (n : ℕ) (rows : List (List ℕ)) (leads : Li
   pub leads_are : Leads n 0 rows leads
   pub clear : Clear rows leads
 
--- the rest is the vector less a combination of the rows, and has 0 at each of their leads
+-- the rest is the vector plus a combination of the rows, and has 0 at each of their leads
 pub record IsResidue (f : Field) (n : ℕ) (rows : List (List ℕ)) (leads : List ℕ) (v rest : List ℕ) : Type 0 where
   pub vector : IsVector f n rest
-  pub back : InSpan f n (rest ∷ rows) v
-  pub there : InSpan f n (v ∷ rows) rest
+  pub part : List ℕ
+  pub inside : InSpan f n rows part
+  pub sum : vector_sum f v part ≡ rest
   pub zero : All (λ k. slice_index rest k ≡ 0) leads
+
+-- the rest is the vector plus a combination of the rows of a matrix, and has 0 at each of their pivot columns
+pub record IsResidueBy (m : MatrixValue) (v rest : List ℕ) : Type 0 where
+  pub vector : IsVector m.f m.cols rest
+  pub part : List ℕ
+  pub inside : InSpan m.f m.cols m.rows part
+  pub sum : vector_sum m.f v part ≡ rest
+  pub zero : (k : ℕ) → k < m.cols → is_pivot m.f m.rows k ≡ true → slice_index rest k ≡ 0
 
 -- w leads at p with a 1, and has 0 at each of the leads
 pub record IsNew (f : Field) (n p : ℕ) (w : List ℕ) (leads : List ℕ) : Type 0 where

@@ -6,8 +6,9 @@ ghost use Rattle.mm_linear.specs.ReducedEchelon.{reduced_basis};
 ghost use Rattle.mm_matrix.specs.MatrixValue.{HasRowSpace};
 ghost use Rattle.mm_matrix.specs.Outside.{IsFirstOutside};
 ghost use Rattle.mm_matrix.specs.Orthogonal.{IsNullOf};
+ghost use Rattle.mm_matrix.specs.Residues.{AreReduced, IsResidueBy};
 
-use crate::elimination::{insert, new_row};
+use crate::elimination::{insert, new_row, residue};
 use crate::matrix::Matrix;
 use crate::orthogonality::add_kernel_vector;
 use mm_base::NoMemory;
@@ -88,6 +89,21 @@ impl Echelon {
         ensures { result ≡ length self.now.rows }
     {
         self.rows.len()
+    }
+
+    /// The leads: the column of the first digit other than 0 of each row, from the first row to the last. They are the pivot columns.
+    pub fn leads(&self) -> &[usize]
+        ensures { AreReduced self.now.f self.now.cols self.now.rows result.now }
+    {
+        &self.leads
+    }
+
+    /// The residue of `row`: the row plus a combination of the rows of the space, with 0 in each pivot column.
+    pub fn residue(&self, alloc: Global, row: &[u8]) -> Result<Vec<u8>, NoMemory>
+        requires { IsVector self.now.f self.now.cols row.now }
+        ensures { IfOk result (λ rest. IsResidueBy self.now row.now rest.items) }
+    {
+        residue(alloc, self.field, &self.rows, &self.leads, row)
     }
 
     /// Whether `row` is a combination of the rows of the space.

@@ -25,7 +25,7 @@ fn reduce(f: Field, rows: &Vec<Vec<u8>>, leads: &Vec<usize>, v: &mut [u8])
 }
 
 /// What is left of `row` without its part along the rows.
-fn rest_of(
+pub fn residue(
     alloc: Global,
     f: Field,
     rows: &Vec<Vec<u8>>,
@@ -74,7 +74,7 @@ pub fn new_row(
         (InSpan f (length row.now) (map (λ r. r.items) rows.now.items) row.now)
         (λ w. AddsAs f (length row.now) w.lead w.digits.items (map (λ r. r.items) rows.now.items) leads.now.items row.now)) }
 {
-    let mut rest = rest_of(alloc, f, rows, leads, row)?;
+    let mut rest = residue(alloc, f, rows, leads, row)?;
     let Some(lead) = lanes::first_nonzero(&rest) else {
         return Ok(None);
     };

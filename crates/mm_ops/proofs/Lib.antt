@@ -1,3 +1,4 @@
 pub mod IndependenceSteps
 pub mod ValidOps
 pub mod TableLemmas
+pub mod OpEquality

@@ -1,5 +1,5 @@
 -- Tables of named operators.
-use Rattle.std.specs.Prelude.{ℕ, ◌≡◌, nat_le, Bool, List, [], ◌∷◌, length, Option, Some, None, Ok, Err, if◌then◌else◌}
+use Rattle.std.specs.Prelude.{ℕ, ◌≡◌, nat_le, Bool, false, List, [], ◌∷◌, length, Option, Some, None, Ok, Err, if◌then◌else◌}
 use Rattle.std.specs.List.{list_any}
 use Rattle.std.specs.Str.{bytes_eq}
 use Rattle.std.specs.declared.result.Result.{Result}
@@ -18,6 +18,11 @@ op_named name (entry ∷ entries) = if bytes_eq name entry.0 then Some entry.1 e
 
 abbrev pub has_name : List ℕ → OperatorList → Bool
 has_name name entries = list_any (λ (entry : List ℕ × OpValue). bytes_eq name entry.0) entries
+
+-- no two operators have one name
+abbrev pub NamesDiffer : OperatorList → Type 0
+NamesDiffer [] = Unit {0}
+NamesDiffer (entry ∷ entries) = (has_name entry.0 entries ≡ false) × NamesDiffer entries
 
 -- Why an operator is not added: its name is there, or 4096 operators are.
 abbrev pub refusal_of : List ℕ → OperatorList → Option OpTableFault

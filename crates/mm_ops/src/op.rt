@@ -6,11 +6,12 @@ ghost use Rattle.mm_field.specs.Vectors.{AreDigits, AreVectors};
 ghost use Rattle.mm_linear.specs.Coordinates.{unit};
 ghost use Rattle.mm_logic.specs.Operator.{IsValidOp};
 ghost use Rattle.mm_ops.specs.OpFaults.{Makes, first_dependent, has_shape};
-ghost use Rattle.mm_ops.specs.OpValue.{operator};
+ghost use Rattle.mm_ops.specs.OpValue.{form_of, operator};
+ghost use Rattle.mm_space.specs.JoinForms.{Joins};
 
 use crate::independence::are_independent;
 use mm_field::Field;
-use mm_space::{Gen, first_units};
+use mm_space::{Gen, JoinForm, JoinRows, Key, first_units};
 use std::marker::Model;
 use thiserror::Error;
 
@@ -39,14 +40,12 @@ pub enum OpFault {
 /// one of the right part at b times G2, and one of the join at b times G3.
 #[derive(Clone, Copy, Debug, PartialEq, Eq, Hash)]
 pub struct Op {
-    field: Field,
     t1: u8,
     t2: u8,
     t3: u8,
     c: u8,
-    g1: Gen,
-    g2: Gen,
-    g3: Gen,
+    // The field and the matrices, ready to join keys.
+    form: JoinForm,
 }
 
 impl Model for Op {
@@ -54,13 +53,16 @@ impl Model for Op {
 
     ghost Value = { OpValue };
 
-    ghost use Rattle.mm_ops.specs.OpView.{value_of, inside_of, IsKept};
+    ghost use Rattle.mm_ops.specs.OpView.{value_of, inside_of, with_length, IsKept};
+    ghost use Rattle.std.proofs.Common.{ap};
 
     ghost view = { value_of };
 
     ghost invariant = { IsKept };
 
     ghost inverse = { inside_of };
+
+    ghost inverse_ok = { λ a h. ap (with_length a) h.length };
 }
 
 impl Op {
@@ -92,16 +94,21 @@ impl Op {
         if let Some(k) = first_dependent(f, r, &g1, &g2, &g3) {
             return Err(OpFault::Dependent(k));
         }
-        Ok(Op {
-            field: f,
+        Ok(Op::of_valid(f, t1, t2, t3, c, g1, g2, g3))
+    }
+
+    // The operator of numbers and matrices that are valid.
+    fn of_valid(f: Field, t1: u8, t2: u8, t3: u8, c: u8, g1: Gen, g2: Gen, g3: Gen) -> Op
+        requires { IsValidOp f (operator t1 t2 t3 c g1 g2 g3) }
+        ensures { result ≡ record { f = f; op = operator t1 t2 t3 c g1 g2 g3 } }
+    {
+        Op {
             t1,
             t2,
             t3,
             c,
-            g1,
-            g2,
-            g3,
-        })
+            form: JoinForm::new(f, t3 + c, g1, g2, g3),
+        }
     }
 
     /// The operator whose third matrix is the first t3 unit vectors, or the first fault that it has.
@@ -131,7 +138,7 @@ impl Op {
         ensures field { result ≡ self.now.f }
         ensures valid { IsValidOp self.now.f self.now.op }
     {
-        self.field
+        self.form.field()
     }
 
     /// The boundary of the left part.
@@ -166,21 +173,35 @@ impl Op {
     pub fn g1(&self) -> &Gen
         ensures { result.now ≡ self.now.op.g1 }
     {
-        &self.g1
+        self.form.g1()
     }
 
     /// Where the boundary of the right part lies.
     pub fn g2(&self) -> &Gen
         ensures { result.now ≡ self.now.op.g2 }
     {
-        &self.g2
+        self.form.g2()
     }
 
     /// Where the boundary of the join lies.
     pub fn g3(&self) -> &Gen
         ensures { result.now ≡ self.now.op.g3 }
     {
-        &self.g3
+        self.form.g3()
+    }
+
+    /// The boundary space of a join from those of its parts: the key of all b such that b*G3 is in the sum of the images of the left
+    /// key under G1 and of the right key under G2. None exactly where a vector other than zero is in both images. The rows are
+    /// room to work in, and what they held before does not matter.
+    #[inline]
+    pub fn join(&self, left: &Key, right: &Key, rows: &mut JoinRows) -> Option<Key>
+        requires left_field { left.now.f ≡ self.now.f }
+        requires right_field { right.now.f ≡ self.now.f }
+        requires left_boundary { left.now.t ≡ self.now.op.t1 }
+        requires right_boundary { right.now.t ≡ self.now.op.t2 }
+        ensures { Joins (form_of self.now) left.now right.now result }
+    {
+        self.form.join(left, right, rows)
     }
 }
 

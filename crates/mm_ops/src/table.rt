@@ -1,7 +1,7 @@
 //! Operators by their names.
 
 ghost use Rattle.std.specs.Prelude.{◌≡◌, ◌++◌, [], ◌∷◌, OnOk, OnErr};
-ghost use Rattle.mm_ops.specs.Tables.{Answers, op_named, refusal_of};
+ghost use Rattle.mm_ops.specs.Tables.{Answers, NamesDiffer, op_named, refusal_of};
 
 use crate::Op;
 use indexmap::IndexMap;
@@ -34,11 +34,13 @@ pub struct OpTable {
 }
 
 impl Model for OpTable {
-    ghost use Rattle.mm_ops.specs.Tables.{OperatorList};
+    ghost use Rattle.mm_ops.specs.Tables.{OperatorList, NamesDiffer};
 
     ghost Value = { OperatorList };
 
     ghost view = { λ t. t.ops.entries };
+
+    ghost invariant = { λ t. NamesDiffer t.ops.entries };
 }
 
 impl OpTable {
@@ -79,9 +81,10 @@ impl OpTable {
         None
     }
 
-    /// The operator of this name. None exactly where it is not there.
+    /// The operator of this name. None exactly where it is not there. It tells what holds of every table, too.
     pub fn find(&self, name: &Name) -> Option<Op>
-        ensures { result ≡ op_named name.now self.now }
+        ensures differ { NamesDiffer self.now }
+        ensures found { result ≡ op_named name.now self.now }
     {
         self.ops.get(name).copied()
     }

@@ -7,7 +7,6 @@ mod SolveLemmas
 mod RangeLemmas
 pub mod TreeRows
 mod NodeLemmas
-pub mod NameLemmas
 mod StackLemmas
 pub mod CompareLemmas
 mod RankLemmas

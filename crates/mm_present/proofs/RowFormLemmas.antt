@@ -14,7 +14,7 @@ use Rattle.mm_field.proofs.PartLemmas.{AreVectors-map}
 use Rattle.mm_linear.specs.Coordinates.{coordinates, in_coordinates, IsBasis}
 use Rattle.mm_linear.proofs.CoordinateLemmas.{IsVector-coordinates, coordinates_of, coordinates_unique}
 use Rattle.mm_linear.specs.Coordinates.{completed}
-use Rattle.mm_linear.specs.Joins.{left_column, right_column}
+use Rattle.mm_logic.specs.PresentMatrix.{left_column, right_column}
 use Rattle.mm_linear.proofs.BasisLemmas.{completed_is_basis}
 use Rattle.mm_logic.specs.Operator.{row_length}
 use Rattle.mm_logic.specs.PresentMatrix.{internal, columns}

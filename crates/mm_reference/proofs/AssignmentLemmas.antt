@@ -6,7 +6,7 @@ use Rattle.std.proofs.Math.Seq.{take-suc}
 use Rattle.std.proofs.Math.Bool.{or-true, and-false}
 use Rattle.std.proofs.lemmas.List.{map-append, length-map, length-take-le, length-replicate, get_or-map, take_all}
 use Rattle.std.proofs.lemmas.List.Elements.{All-nil, All-cons, All-map, All-append}
-use Rattle.mm_linear.proofs.LeafLemmas.{chosen-append}
+use Rattle.mm_logic.proofs.ChosenLemmas.{chosen-append}
 use Rattle.mm_field.specs.declared.Field.{Field}
 use Rattle.mm_field.specs.Vectors.{AreVectors}
 use Rattle.mm_logic.specs.PresentMatrix.{internal, chosen}

@@ -6,7 +6,7 @@ use Rattle.mm_field.specs.declared.Field.{Field}
 use Rattle.mm_field.specs.Vectors.{AreDigits, AreVectors, zeros, times_matrix}
 use Rattle.mm_linear.specs.Coordinates.{completed, coordinates, in_coordinates}
 use Rattle.mm_field.proofs.CombinationLemmas.{IsVector-combination}
-use Rattle.mm_linear.specs.Joins.{left_column, right_column}
+use Rattle.mm_logic.specs.PresentMatrix.{left_column, right_column}
 use Rattle.mm_linear.proofs.BasisLemmas.{completed_is_basis}
 use Rattle.mm_logic.specs.Operator as operator
 use Rattle.mm_reference.specs.Rows.{rows_of}

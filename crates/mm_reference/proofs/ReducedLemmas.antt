@@ -22,11 +22,12 @@ use Rattle.mm_field.specs.Digits.{order}
 use Rattle.mm_field.proofs.VectorLemmas.{IsVector-zeros}
 use Rattle.mm_field.proofs.CombinationLemmas.{InSpan-within}
 use Rattle.mm_linear.specs.Decide.{is_in_span}
-use Rattle.mm_linear.specs.Subspaces.{all_vectors, subspace, boundary_space}
+use Rattle.mm_linear.specs.Subspaces.{all_vectors, subspace, head_of_span}
+use Rattle.mm_logic.specs.BoundarySpaces.{boundary_space}
 use Rattle.mm_linear.proofs.ReducedEchelonLemmas.{reduced_basis_is}
 use Rattle.mm_linear.proofs.MeetTest.{is_in_span_decides}
 use Rattle.mm_linear.proofs.SubspaceLemmas.{IsVector-in_span}
-use Rattle.mm_linear.proofs.SubspaceTests.{Contains-filter, all_vectors_contain, all_vectors_are, boundary_space_is}
+use Rattle.mm_linear.proofs.SubspaceTests.{Contains-filter, all_vectors_contain, all_vectors_are, head_of_span_is}
 use Rattle.mm_linear.proofs.InsertLemmas.{sum_of_zeros, cleared_at}
 use Rattle.mm_reference.specs.Rows.{rows_of}
 use Rattle.mm_reference.specs.Spaces.{IsSpace, HasLead, IsReducedRow}
@@ -302,7 +303,7 @@ shown_vectors f t m columns =
     All-filter (λ b. is_in_span f (t + m) columns (b ++ zeros m)) (λ v. IsVector f t v) (all_vectors f t) (all_vectors_are f t)
 
 pub shown_basis : (f : Field) (t m : ℕ) (columns : List (List ℕ)) → IsLeftBasis f t (shown f t m columns) (boundary_space f t m columns)
-unfolding boundary_space subspace
+unfolding head_of_span subspace
 shown_basis f t m columns = reduced_basis_is f t (shown f t m columns) (shown_vectors f t m columns)
 
 pub shown_space : (f : Field) (t m : ℕ) (columns : List (List ℕ)) → AreVectors f (t + m) columns → IsSpace f t (shown f t m columns)
@@ -312,7 +313,7 @@ shown_space f t m columns h = record {
       let hv = IsVector-in_span f t (shown f t m columns) v (shown_vectors f t m columns) p in
       let b = shown_basis f t m columns in
       let q = InSpan-within f t (shown f t m columns) (boundary_space f t m columns) v b.each b.span.0 p in
-      let r = ((boundary_space_is f t m columns h).decides v hv).0 q in
+      let r = ((head_of_span_is f t m columns h).decides v hv).0 q in
       Contains-filter (λ u. is_in_span f (t + m) columns (u ++ zeros m)) (all_vectors f t) v (all_vectors_contain f t v hv)
       ((is_in_span_decides f (t + m) columns (v ++ zeros m) h (padded_vector f t m v hv)).1 r);
 }

@@ -3,7 +3,7 @@ use Rattle.std.specs.Prelude.{ℕ, List, ◌++◌, map, take, drop}
 use Rattle.mm_field.specs.declared.Field.{Field}
 use Rattle.mm_field.specs.Vectors.{zeros, times_matrix}
 use Rattle.mm_linear.specs.Coordinates.{coordinates, completed, in_coordinates}
-use Rattle.mm_linear.specs.Joins.{left_column, right_column}
+use Rattle.mm_logic.specs.PresentMatrix.{left_column, right_column}
 use Rattle.mm_logic.specs.Operator as operator
 use Rattle.mm_logic.specs.Tree as tree
 use Rattle.mm_reference.specs.Rows.{rows_of}

@@ -6,6 +6,7 @@ ghost use Rattle.mm_field.specs.Digits.{order};
 ghost use Rattle.mm_field.specs.Vectors.{zeros, AreDigits, AreVectors};
 ghost use Rattle.mm_linear.specs.Decide.{is_in_span};
 ghost use Rattle.mm_linear.specs.Subspaces as subspaces;
+ghost use Rattle.mm_logic.specs.BoundarySpaces as boundary_spaces;
 ghost use Rattle.mm_reference.specs.Rows.{rows_of};
 ghost use Rattle.mm_reference.specs.Spaces.{HasLead, IsClearOf, IsReducedRow};
 
@@ -161,7 +162,7 @@ pub fn boundary_space(
     columns: &[Vec<u8>],
 ) -> Result<Vec<Vec<u8>>, AllocError>
     requires { AreVectors f (t + m) (rows_of columns.now) }
-    ensures { IfOk result (λ v. rows_of v.items ≡ subspaces.boundary_space f t m (rows_of columns.now)) }
+    ensures { IfOk result (λ v. rows_of v.items ≡ boundary_spaces.boundary_space f t m (rows_of columns.now)) }
 {
     let space = boundary_vectors(alloc, f, t, m, columns)?;
     let mut rows = Vec::new(alloc);

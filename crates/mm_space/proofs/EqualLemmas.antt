@@ -5,11 +5,11 @@ use Rattle.mm_field.specs.declared.Field.{Field}
 use Rattle.mm_field.specs.Vectors.{times_matrix, IsVector, AreVectors, InSpan, SameRowSpace}
 use Rattle.mm_field.proofs.CombinationLemmas.{InSpan-within, IsWithin-itself, IsVector-combination}
 use Rattle.mm_linear.specs.Echelons.{IsEchelon}
-use Rattle.mm_linear.specs.Joins.{InSum}
+use Rattle.mm_linear.specs.Sums.{InSum}
 use Rattle.mm_linear.specs.ReducedEchelon.{reduced_basis}
 use Rattle.mm_linear.proofs.EchelonLemmas.{echelon_unique}
 use Rattle.mm_linear.proofs.ReducedEchelonLemmas.{reduced_basis-same}
-use Rattle.mm_linear.proofs.TypeLemmas.{InSum-from_append, append_from_InSum, span_of_images, image_of_span}
+use Rattle.mm_linear.proofs.SpanLemmas.{InSum-from_append, append_from_InSum, span_of_images, image_of_span}
 use Rattle.mm_space.specs.SpaceValue.{SpaceValue, IsIn, IsImage, IsSpanOf}
 use Rattle.mm_space.specs.SpaceValue as spaces
 use Rattle.mm_space.specs.KeyValue.{KeyValue}

@@ -13,7 +13,7 @@ use Rattle.mm_field.proofs.CombinationLemmas.{InSpan-within, IsWithin-itself, co
 use Rattle.mm_field.proofs.PartLemmas.{IsVector-append}
 use Rattle.mm_linear.specs.Coordinates.{unit, free_columns}
 use Rattle.mm_linear.specs.Decide.{is_in_span}
-use Rattle.mm_linear.specs.Subspaces.{boundary_space, preimage}
+use Rattle.mm_linear.specs.Subspaces.{head_of_span, preimage}
 use Rattle.mm_linear.proofs.BasisLemmas.{IsVector-unit, completed_is_basis}
 use Rattle.mm_linear.proofs.FirstUnits.{first_units, combination-first_units, first_units_independent, first_units_are, first_units_count}
 use Rattle.mm_linear.proofs.ReducedEchelonLemmas.{reduced_basis-same}
@@ -101,7 +101,7 @@ first_units_vectors f r t l =
 -- ---- the head
 
 pub head_of_preimage : (s : SpaceValue) (t : ℕ) (key : KeyValue) → t ≤ s.r → IsPreimage s (first_units s.r t) t key → IsHead s t key
-unfolding preimage boundary_space
+unfolding preimage head_of_span
 head_of_preimage s t key l p =
     let w : s.r ≡ t + (s.r - t) = omega arith in
     let keep = λ (b : List ℕ) (hb : IsVector s.f t b). first_units_keep s.f s.r t b l hb in

@@ -6,7 +6,7 @@ use Rattle.mm_field.specs.declared.Field.{Field}
 use Rattle.mm_field.specs.Vectors.{times_matrix, IsVector, AreVectors, InSpan, SameRowSpace}
 use Rattle.mm_field.proofs.CombinationLemmas.{InSpan-within, IsVector-combination}
 use Rattle.mm_linear.specs.Decide.{is_in_span, meets_in_zero}
-use Rattle.mm_linear.specs.Meets.{MeetTrivially}
+use Rattle.mm_linear.specs.Sums.{MeetTrivially}
 use Rattle.mm_linear.specs.Subspaces.{preimage}
 use Rattle.mm_linear.proofs.MeetTest.{is_in_span_decides, meets_in_zero_decides}
 use Rattle.mm_linear.proofs.SumLemmas.{same_itself}
@@ -18,11 +18,11 @@ use Rattle.mm_space.proofs.KeptLemmas.{same_append}
 
 -- ---- over rows that span the same
 
-meet_same : (f : Field) (n : ℕ) (A B C D : List (List ℕ)) → AreVectors f n C → AreVectors f n D → SameRowSpace f n A C → SameRowSpace f n B D →
+pub meet_same : (f : Field) (n : ℕ) (A B C D : List (List ℕ)) → AreVectors f n C → AreVectors f n D → SameRowSpace f n A C → SameRowSpace f n B D →
     MeetTrivially n (InSpan f n C) (InSpan f n D) → MeetTrivially n (InSpan f n A) (InSpan f n B)
 meet_same f n A B C D hc hd s t m z p q = m z (InSpan-within f n A C z hc s.0 p) (InSpan-within f n B D z hd t.0 q)
 
-reversed_same : (f : Field) (n : ℕ) (A B : List (List ℕ)) → SameRowSpace f n A B → SameRowSpace f n B A
+pub reversed_same : (f : Field) (n : ℕ) (A B : List (List ℕ)) → SameRowSpace f n A B → SameRowSpace f n B A
 reversed_same f n A B s = (s.1, s.0)
 
 preimage_same : (f : Field) (t r : ℕ) (g A B : List (List ℕ)) → AreVectors f r g → AreVectors f r A → AreVectors f r B → SameRowSpace f r A B →

@@ -11,13 +11,13 @@ use Rattle.mm_field.proofs.VectorLemmas.{IsVector-zeros}
 use Rattle.mm_field.proofs.CombinationLemmas.{InSpan-zeros, InSpan-within, IsWithin-within, IsWithin-itself}
 use Rattle.mm_field.proofs.PartLemmas.{IsVector-append, IsVector-take, AreVectors-map, append_parts, zeros-append}
 use Rattle.mm_linear.specs.Echelons.{EndsAt}
-use Rattle.mm_linear.specs.Meets.{MeetTrivially}
+use Rattle.mm_linear.specs.Sums.{MeetTrivially}
 use Rattle.mm_linear.specs.Padded.{padded}
 use Rattle.mm_linear.proofs.EchelonLemmas.{row_at, combination_entry_zero}
 use Rattle.mm_linear.proofs.SubspaceLemmas.{pad, InSpan-pad, drop_of_end, IsVector-in_span}
 use Rattle.mm_linear.proofs.SumLemmas.{zero_row, same_more, meet_none}
 use Rattle.mm_linear.proofs.SpaceLemmas.{IsEchelon-zeros, zeros_within}
-use Rattle.mm_linear.proofs.TypeLemmas.{append_left_in, append_right_in}
+use Rattle.mm_linear.proofs.SpanLemmas.{append_left_in, append_right_in}
 use Rattle.mm_linear.proofs.HeadLemmas.{IsEchelon-head, InSpan-head}
 use Rattle.std.specs.Prelude.{IsTrue}
 use Rattle.mm_space.specs.SpaceView.{IsKept}

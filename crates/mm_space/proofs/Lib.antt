@@ -1,5 +1,6 @@
 mod TextLemmas
 mod GenTextLemmas
+pub mod DigitTextLemmas
 mod RowLemmas
 pub mod KeptLemmas
 mod SumSteps
@@ -11,3 +12,8 @@ mod ReversedLemmas
 mod PackLemmas
 mod PackSteps
 pub mod JoinRule
+mod MarkLemmas
+mod MarkedSteps
+mod FaithfulLemmas
+mod FormLemmas
+mod JoinSteps

@@ -157,3 +157,20 @@ unpacked-get bits i j l m =
     ∙ ap (unpacked_row bits t) (get_or-range_with_len 0 n i 0 li ∙ omega arith))
     ∙ get_or-map digit (range_with_len 0 t) j 0 0 (omega (arith, length-range_with_len 0 t))
     ∙ ap digit (get_or-range_with_len 0 t j 0 m ∙ omega arith)
+
+-- the numbers below 2 ^ 18 are those of the first six places
+low_number : (x j : ℕ) → j < 6 → x % 262144 / 2 ^ (3 * j) % 8 ≡ x / 2 ^ (3 * j) % 8
+low_number x zero l = omega arith
+low_number x (suc zero) l = omega arith
+low_number x (suc (suc zero)) l = omega arith
+low_number x (suc (suc (suc zero))) l = omega arith
+low_number x (suc (suc (suc (suc zero)))) l = omega arith
+low_number x (suc (suc (suc (suc (suc zero))))) l = omega arith
+low_number x (suc (suc (suc (suc (suc (suc j)))))) l = absurd (omega arith)
+
+-- six numbers from place k on, cut out together
+pub cut_number : (bits k j : ℕ) → j < 6 → bits / 2 ^ (3 * k) % 262144 / 2 ^ (3 * j) % 8 ≡ digit_at bits (k + j)
+cut_number bits k j l =
+    let e : 3 * k + 3 * j ≡ 3 * (k + j) = omega arith in
+    low_number (bits / 2 ^ (3 * k)) j l
+    ∙ ap (λ x. x % 8) (div-div-eq-div-mul bits (2 ^ (3 * k)) (2 ^ (3 * j)) ∙ ap (λ p. bits / p) (sym (pow-add 2 (3 * k) (3 * j)) ∙ ap (λ n. 2 ^ n) e))

@@ -76,7 +76,7 @@ falling-combination f (suc t) (c ∷ cs) h l =
 
 -- ---- what is left beside a space is linear
 
-residue-vector_sum : (f : Field) (n : ℕ) (u v : List ℕ) (W : List (List ℕ)) → length u ≡ length v →
+pub residue-vector_sum : (f : Field) (n : ℕ) (u v : List ℕ) (W : List (List ℕ)) → length u ≡ length v →
     residue f n (vector_sum f u v) W ≡ vector_sum f (residue f n u W) (residue f n v W)
 residue-vector_sum f n u v W e =
     let m = negative f 1 in
@@ -84,7 +84,7 @@ residue-vector_sum f n u v W e =
     ∙ ap (vector_sum f (vector_sum f u v)) (multiple-vector_sum f m (combination f n u W) (combination f n v W))
     ∙ vector_sum_middle f u v (multiple f m (combination f n u W)) (multiple f m (combination f n v W))
 
-residue-multiple : (f : Field) (n c : ℕ) (u : List ℕ) (W : List (List ℕ)) → residue f n (multiple f c u) W ≡ multiple f c (residue f n u W)
+pub residue-multiple : (f : Field) (n c : ℕ) (u : List ℕ) (W : List (List ℕ)) → residue f n (multiple f c u) W ≡ multiple f c (residue f n u W)
 residue-multiple f n c u W =
     let m = negative f 1 in
     let w = combination f n u W in
@@ -92,13 +92,13 @@ residue-multiple f n c u W =
     ∙ ap (vector_sum f (multiple f c u)) (sym (multiple-times f m c w) ∙ ap (λ a. multiple f a w) (times_comm f m c) ∙ multiple-times f c m w)
     ∙ sym (multiple-vector_sum f c u (multiple f m w))
 
-residue-zeros : (f : Field) (n : ℕ) (W : List (List ℕ)) → AreVectors f n W → residue f n (zeros n) W ≡ zeros n
+pub residue-zeros : (f : Field) (n : ℕ) (W : List (List ℕ)) → AreVectors f n W → residue f n (zeros n) W ≡ zeros n
 residue-zeros f n W h =
     ap (λ x. vector_sum f (zeros n) (multiple f (negative f 1) x)) (combination-zeros f n n W h)
     ∙ ap (vector_sum f (zeros n)) (multiple-zeros f (negative f 1) n)
     ∙ zeros_twice f n
 
-residue-combination : (f : Field) (n : ℕ) (cs : List ℕ) (W rows : List (List ℕ)) → AreVectors f n W → AreVectors f n rows →
+pub residue-combination : (f : Field) (n : ℕ) (cs : List ℕ) (W rows : List (List ℕ)) → AreVectors f n W → AreVectors f n rows →
     combination f n cs (map (λ v. residue f n v W) rows) ≡ residue f n (combination f n cs rows) W
 residue-combination f n cs W rows hw hr =
     combination-map f n n (λ v. residue f n v W)
@@ -181,7 +181,7 @@ rests_are f t g W lt count =
     ∙ sym (get_or-map (take 18) H i [] [] (omega arith)))
 
 -- a combination of the tagged rows: the coefficients turned round, and what is left of b*G
-tagged-combination : (f : Field) (r t : ℕ) (g W : List (List ℕ)) → t ≤ 6 → r ≤ 24 → length g ≡ t → AreVectors f r g → IsEchelon f 24 W →
+pub tagged-combination : (f : Field) (r t : ℕ) (g W : List (List ℕ)) → t ≤ 6 → r ≤ 24 → length g ≡ t → AreVectors f r g → IsEchelon f 24 W →
     (b : List ℕ) → IsVector f t b → combination f 24 b (tagged_rows f t g W) ≡ (reverse b ++ zeros (6 - t)) ++ rest_of f r g W b
 tagged-combination f r t g W lt lr count hg hw b hb =
     let L = tagged_rows f t g W in
@@ -222,7 +222,7 @@ nothing_left f r g W lr hg h b =
       (λ q. ap (take 18) (no_residue f 24 p W h.echelon hp (same.0 q)) ∙ take-replicate 18 24 0 (omega arith)),
     )
 
-target_is : (b : List ℕ) (t : ℕ) → t ≤ 6 → (b ++ zeros (6 - t)) ++ zeros 18 ≡ b ++ zeros (24 - t)
+pub target_is : (b : List ℕ) (t : ℕ) → t ≤ 6 → (b ++ zeros (6 - t)) ++ zeros 18 ≡ b ++ zeros (24 - t)
 target_is b t l =
     append_assoc b (zeros (6 - t)) (zeros 18)
     ∙ ap (λ x. b ++ x) (zeros-append (6 - t) 18 ∙ let e : 6 - t + 18 ≡ 24 - t = omega arith in ap zeros e)

@@ -4,7 +4,7 @@ use Rattle.std.specs.Prelude.{IsTrue}
 use Rattle.mm_field.specs.declared.Field.{Field}
 use Rattle.mm_field.specs.Vectors.{InSpan, SameRowSpace}
 use Rattle.mm_linear.specs.Echelons.{entry}
-use Rattle.mm_linear.specs.Meets.{MeetTrivially}
+use Rattle.mm_linear.specs.Sums.{MeetTrivially}
 use Rattle.mm_linear.proofs.SpaceLemmas.{false_true}
 use Rattle.mm_linear.proofs.SumLemmas.{span_next, span_next_zero, meet_next, meet_next_zero, meet_refuted}
 use Rattle.mm_space.specs.Insertion.{IsHeld, IsInserted}

@@ -1,3 +1,5 @@
+pub mod DigitTexts
+pub mod FormView
 pub mod GenView
 pub mod Images
 pub mod Insertion
@@ -9,3 +11,5 @@ pub mod SpaceView
 pub mod StoredDigits
 pub mod VectorText
 pub mod VectorView
+pub mod JoinForms
+pub mod MarkedRows

@@ -7,7 +7,7 @@ use Rattle.mm_linear.specs.Padded.{padded}
 use Rattle.mm_linear.specs.Eliminate.{residue}
 use Rattle.mm_linear.specs.Coordinates.{unit}
 use Rattle.mm_linear.specs.ReducedEchelon.{reduced_basis}
-use Rattle.mm_linear.specs.Subspaces.{boundary_space, preimage}
+use Rattle.mm_linear.specs.Subspaces.{head_of_span, preimage}
 use Rattle.mm_space.specs.SpaceValue.{SpaceValue, IsIn}
 use Rattle.mm_space.specs.KeyValue.{KeyValue}
 
@@ -27,7 +27,7 @@ pub record IsHead (s : SpaceValue) (t : ℕ) (key : KeyValue) : Type 0 where
   pub each : AreVectors s.f t key.rows
   pub reduced : reduced_basis s.f t key.rows ≡ key.rows
   pub all : (b : List ℕ) → IsVector s.f t b → InSpan s.f t key.rows b ↔ IsIn s (b ++ zeros (s.r - t))
-  pub rows : key.rows ≡ boundary_space s.f t (s.r - t) s.rows
+  pub rows : key.rows ≡ head_of_span s.f t (s.r - t) s.rows
 
 -- row i of g: which one it is, told from the last to the first, and then what is left of it beside the kept rows of a space
 abbrev pub tagged_row : Field → ℕ → List (List ℕ) → List (List ℕ) → ℕ → List ℕ

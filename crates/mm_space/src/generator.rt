@@ -1,9 +1,11 @@
 //! At most six vectors, in place.
 #![tactic(auto)]
 
-ghost use Rattle.std.specs.Prelude.{◌≡◌, ◌≢◌, ◌<◌, ◌≤◌, ◌+◌, ◌↔◌, ℕ, List, [], ◌∷◌, ◌++◌, IsTrue, length, slice_index, slice_index_or, take, drop, IfSome, IfNone};
+ghost use Rattle.std.specs.Prelude.{◌≡◌, ◌≢◌, ◌<◌, ◌≤◌, ◌+◌, ◌↔◌, ℕ, List, [], ◌∷◌, ◌++◌, IsTrue, length, slice_index, slice_index_or, take, drop, IfSome, IfNone, All};
 ghost use Rattle.mm_linear.specs.Padded.{padded};
 ghost use Rattle.mm_space.specs.VectorText.{IsGenText};
+ghost use Rattle.mm_space.specs.DigitTexts.{vectors_of};
+ghost use Rattle.mm_field.specs.Vectors.{AreDigits};
 
 use crate::MAX_ROWS;
 use crate::rows::Row;
@@ -36,11 +38,11 @@ impl Model for Gen {
 }
 
 impl Gen {
-    /// The rows that the bytes show: `.` for none, else 1 to 6 vectors, as `Vector::read` reads them, joined by `/`. None
-    /// exactly where the bytes show no rows.
+    /// The rows that the bytes write: `.` for none, else 1 to 6 vectors, as `Vector::read` reads them, joined by `/`. None
+    /// exactly where the bytes write no rows.
     pub fn read(f: Field, bytes: &[u8]) -> Option<Gen>
-        ensures shown { IfSome result (λ rows. IsGenText f rows bytes.now) }
-        ensures none { IfNone result ((rows : List (List ℕ)) → IsGenText f rows bytes.now → ⊥) }
+        ensures exact { result ≡ vectors_of f bytes.now }
+        ensures digits { IfSome result (λ rows. All (λ v. AreDigits f v) rows) }
     {
         if is_byte(bytes, b'.') {
             return Some(Gen::none());
@@ -51,7 +53,7 @@ impl Gen {
     // The rows of bytes that are not `.`, up to each `/` and then to the end.
     fn read_rows(f: Field, bytes: &[u8]) -> Option<Gen>
         requires { bytes.now ≡ 46 ∷ [] → ⊥ }
-        ensures shown { IfSome result (λ rows. IsGenText f rows bytes.now) }
+        ensures text { IfSome result (λ rows. IsGenText f rows bytes.now) }
         ensures none { IfNone result ((rows : List (List ℕ)) → IsGenText f rows bytes.now → ⊥) }
     {
         let mut rows = Gen::none();

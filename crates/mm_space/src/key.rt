@@ -1,12 +1,14 @@
 //! A subspace of F^t, t at most 6, packed in one number.
 #![tactic(auto)]
 
-ghost use Rattle.std.specs.Prelude.{◌≡◌, ◌<◌, ◌≤◌, ◌+◌, ◌*◌, ◌^◌, ◌↔◌, ℕ, List, [], ◌∷◌, length, map, reverse, take, slice_index, slice_index_or, All};
+ghost use Rattle.std.specs.Prelude.{◌≡◌, ◌≢◌, ◌<◌, ◌≤◌, ◌+◌, ◌*◌, ◌/◌, ◌%◌, ◌^◌, ◌↔◌, ℕ, List, [], ◌∷◌, length, map, reverse, take, slice_index, slice_index_or, All, true, false};
 ghost use Rattle.mm_field.specs.Digits.{order};
 ghost use Rattle.mm_field.specs.Vectors.{AreDigits};
-ghost use Rattle.mm_linear.specs.Echelons.{IsEchelon};
+ghost use Rattle.mm_linear.specs.Echelons.{IsEchelon, entry};
+ghost use Rattle.std.specs.Int.{bit_at};
 ghost use Rattle.mm_linear.specs.ReducedEchelon.{reversed_rows};
 ghost use Rattle.mm_space.specs.SpaceValue.{corner};
+ghost use Rattle.mm_space.specs.MarkedRows.{marked_rows};
 ghost use Rattle.mm_space.specs.KeyView.{IsReduced};
 ghost use Rattle.mm_space.specs.KeyValue.{KeyValue, HaveSameVectors, IsKeyOf, number_onto, digit_at, code_of, joined_rows};
 
@@ -107,7 +109,17 @@ impl Key {
         requires echelon { IsEchelon f 24 rows.now }
         ensures { IsKeyOf f t (map reverse (corner t rows.now)) result }
     {
-        let (packed, rank) = with_rows(t as usize, rows);
+        Key::of_marked_corner(f, t, u64::MAX, rows)
+    }
+
+    /// The same, of the rows alone that the marks show; the others count as zero rows.
+    #[inline(always)]
+    pub(crate) fn of_marked_corner(f: Field, t: u8, marks: u64, rows: &Rows) -> Key
+        requires narrow { t ≤ 6 }
+        requires echelon { IsEchelon f 24 (marked_rows 24 marks rows.now) }
+        ensures { IsKeyOf f t (map reverse (corner t (marked_rows 24 marks rows.now))) result }
+    {
+        let (packed, rank) = with_rows(t as usize, marks, rows);
         Key {
             bits: t as u128 + 8 * (code(f) as u128 + 8 * (rank as u128 + 8 * packed)),
         }
@@ -154,6 +166,15 @@ impl Key {
     {
         number_at(self.bits, 3 + self.t() * i + j)
     }
+
+    /// The digits of basis row i, three bits each, the first one lowest.
+    #[inline(always)]
+    pub(crate) fn row_digits(&self, i: u8) -> u32
+        requires row { i < length self.now.rows }
+        ensures { (j : ℕ) → j < self.now.t → result / 2 ^ (3 * j) % 8 ≡ slice_index (slice_index_or self.now.rows i []) j }
+    {
+        ((self.bits >> (9 + 3 * self.t() * i)) % 262144) as u32
+    }
 }
 
 // The field's own number.
@@ -190,21 +211,34 @@ fn with_row(packed: u128, t: usize, row: &Row) -> u128
     all
 }
 
+// Whether row j is marked and has a digit other than 0 at place j.
+#[inline(always)]
+fn has_row(marks: u64, rows: &Rows, j: usize) -> bool
+    requires { j < 24 }
+    ensures some { result ≡ true → (bit_at marks j ≡ 1) × (entry rows.now j j ≢ 0) }
+    ensures none { result ≡ false → entry (marked_rows 24 marks rows.now) j j ≡ 0 }
+{
+    if (marks >> j) & 1 == 0 {
+        return false;
+    }
+    rows[j][j] != 0
+}
+
 // The digits of the rows other than zero of the t by t corner, from the last row to the first and each from its last digit to
 // its first, and how many rows these are.
 #[inline]
-fn with_rows(t: usize, rows: &Rows) -> (u128, u8)
+fn with_rows(t: usize, marks: u64, rows: &Rows) -> (u128, u8)
     requires narrow { t ≤ 6 }
-    requires digits { All (λ row. All (λ d. d < 8) row) rows.now }
-    ensures packed { result.0 ≡ number_onto 0 (joined_rows (reversed_rows (corner t rows.now) t)) }
-    ensures rank { result.1 ≡ length (reversed_rows (corner t rows.now) t) }
+    requires digits { All (λ row. All (λ d. d < 8) row) (marked_rows 24 marks rows.now) }
+    ensures packed { result.0 ≡ number_onto 0 (joined_rows (reversed_rows (corner t (marked_rows 24 marks rows.now)) t)) }
+    ensures rank { result.1 ≡ length (reversed_rows (corner t (marked_rows 24 marks rows.now)) t) }
     ensures few { result.1 ≤ t }
     ensures room { result.0 < 2 ^ 108 }
 {
     let mut packed = 0;
     let mut rank = 0;
     for j in 0..t {
-        if rows[j][j] != 0 {
+        if has_row(marks, rows, j) {
             packed = with_row(packed, t, &rows[j]);
             rank += 1;
         }

@@ -6,12 +6,16 @@
 
 mod generator;
 mod images;
+mod join_rows;
+mod joining;
 mod key;
 mod rows;
 mod space;
 mod vector;
 
 pub use generator::Gen;
+pub use join_rows::JoinRows;
+pub use joining::JoinForm;
 pub use key::Key;
 pub use space::{Space, first_units};
 pub use vector::Vector;

@@ -10,7 +10,7 @@ ghost use Rattle.mm_field.specs.Digits.{order};
 ghost use Rattle.mm_field.specs.Vectors.{IsVector, AreVectors, InSpan, SameRowSpace, zeros};
 ghost use Rattle.mm_linear.specs.Echelons.{IsEchelon, EndsAt, ZeroFrom};
 ghost use Rattle.mm_linear.specs.Eliminate.{residue, cleared};
-ghost use Rattle.mm_linear.specs.Meets.{MeetTrivially};
+ghost use Rattle.mm_linear.specs.Sums.{MeetTrivially};
 ghost use Rattle.mm_space.specs.Insertion.{IsHeld, IsInserted};
 
 use crate::WIDTH;

@@ -4,8 +4,8 @@
 ghost use Rattle.std.specs.Prelude.{◌≡◌, ◌<◌, ◌≤◌, ◌↔◌, ◌++◌, ◌∷◌, [], ℕ, List, IsTrue, length, map, IfSome};
 ghost use Rattle.std.specs.List.{range_with_len};
 ghost use Rattle.mm_field.specs.Vectors.{AreDigits, AreVectors, InSpan, times_matrix};
-ghost use Rattle.mm_linear.specs.Joins.{InSum};
-ghost use Rattle.mm_linear.specs.Meets.{MeetTrivially};
+ghost use Rattle.mm_linear.specs.Sums.{InSum};
+ghost use Rattle.mm_linear.specs.Sums.{MeetTrivially};
 ghost use Rattle.mm_linear.specs.Coordinates.{unit};
 ghost use Rattle.mm_space.specs.Preimages.{IsHead, IsPreimage};
 ghost use Rattle.mm_space.specs.SpaceValue.{SpaceValue, IsIn, IsImage, IsSpanOf, HaveSameVectors};

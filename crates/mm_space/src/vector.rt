@@ -4,6 +4,8 @@
 ghost use Rattle.std.specs.Prelude.{◌≡◌, ◌<◌, ◌≤◌, ◌↔◌, ℕ, List, [], ◌∷◌, IsTrue, length, slice_index, take, IfSome, IfNone};
 ghost use Rattle.mm_linear.specs.Padded.{padded};
 ghost use Rattle.mm_space.specs.VectorText.{IsVectorText};
+ghost use Rattle.mm_space.specs.DigitTexts.{vector_of};
+ghost use Rattle.mm_field.specs.Vectors.{AreDigits};
 ghost use Rattle.mm_space.specs.StoredDigits.{ZeroAfter};
 
 use crate::{MAX_DIGITS, WIDTH};
@@ -36,11 +38,11 @@ impl Model for Vector {
 }
 
 impl Vector {
-    /// The vector that the bytes show: `-` for no digits, else 1 to 18 ASCII digits of the field. None exactly where the
-    /// bytes show no vector.
+    /// The vector that the bytes write: `-` for no digits, else 1 to 18 ASCII digits of the field. None exactly where the
+    /// bytes write no vector.
     pub fn read(f: Field, bytes: &[u8]) -> Option<Vector>
-        ensures shown { IfSome result (λ v. IsVectorText f v bytes.now) }
-        ensures none { IfNone result ((v : List ℕ) → IsVectorText f v bytes.now → ⊥) }
+        ensures exact { result ≡ vector_of f bytes.now }
+        ensures digits { IfSome result (λ v. AreDigits f v) }
     {
         if is_byte(bytes, b'-') {
             return Some(Vector::none());
@@ -56,7 +58,7 @@ impl Vector {
         requires some { 0 < length bytes.now }
         requires short { length bytes.now ≤ 18 }
         requires no_dash { bytes.now ≡ 45 ∷ [] → ⊥ }
-        ensures shown { IfSome result (λ v. IsVectorText f v bytes.now) }
+        ensures text { IfSome result (λ v. IsVectorText f v bytes.now) }
         ensures none { IfNone result ((v : List ℕ) → IsVectorText f v bytes.now → ⊥) }
     {
         let mut digits = [0; WIDTH];

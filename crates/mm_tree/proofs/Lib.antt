@@ -5,5 +5,6 @@ pub mod PathLemmas
 pub mod StepLemmas
 pub mod PlaceLemmas
 pub mod TreeLemmas
+pub mod ElementLemmas
 pub mod BuilderLemmas
 pub mod ReplaceLemmas

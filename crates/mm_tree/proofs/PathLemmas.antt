@@ -2,7 +2,7 @@
 use Rattle.std.proofs.Common.{ℕ, suc, ◌≡◌, ◌<◌, ◌≤◌, ◌+◌, ◌-◌, Bool, true, false, List, [], ◌∷◌, length, take, refl, sym, ap, ap₂, ◌∙◌, subst, Option, Some, None, if◌then◌else◌, arith}
 use Rattle.std.specs.Str.{bytes_eq}
 use Rattle.mm_logic.specs.Operator.{Op}
-use Rattle.mm_tree.specs.NamedTree.{Tree, depth, nodes}
+use Rattle.mm_tree.specs.NamedTree.{Tree, nodes}
 use Rattle.mm_tree.specs.NamedTree.Tree.{Elem, Void, Join}
 use Rattle.mm_tree.specs.Nodes.{named_leaf}
 use Rattle.mm_tree.specs.Places.{IsReached}

@@ -1,14 +1,13 @@
 -- The names outside a node, and whether a tree may take its place.
-use Rattle.std.proofs.Common.{ℕ, zero, suc, ◌≡◌, ◌<◌, ◌≤◌, ◌+◌, ◌++◌, ◌||◌, ◌==◌, max, nat_le, not, Bool, true, false, List, [], ◌∷◌, length, ◌-◌, refl, sym, ap, ap₂, ◌∙◌, subst, Option, Some, None, Ok, Err, if◌then◌else◌, arith, length-append, append_assoc, append-nil, nat_lt, ◌/◌}
-use Rattle.std.specs.List.{list_any, IsDistinct}
+use Rattle.std.proofs.Common.{ℕ, zero, suc, ◌≡◌, ◌<◌, ◌≤◌, ◌+◌, ◌++◌, ◌||◌, ◌==◌, max, nat_le, not, cond, get_or, inl, inr, Bool, true, false, List, [], ◌∷◌, length, ◌-◌, refl, sym, ap, ap₂, ◌∙◌, subst, Option, Some, None, if◌then◌else◌, arith, length-append, append_assoc, append-nil, nat_lt}
+use Rattle.std.specs.List.{IsDistinct, position, position_or_len}
 use Rattle.std.specs.Str.{bytes_eq}
-use Rattle.std.specs.declared.result.Result.{Result}
 use Rattle.indexmap.specs.IndexSet.{insert_key, insert_all}
-use Rattle.mm_base.specs.declared.failure.NoMemory.{NoMemory}
 use Rattle.mm_base.specs.contracts.name.NamePartialEq.TheImpl.{eq-value}
-use Rattle.mm_base.proofs.NameLemmas.{bytes_same}
+use Rattle.mm_base.proofs.NameLemmas.{bytes_same, same_bytes}
 use Rattle.mm_logic.specs.Operator.{Op}
-use Rattle.mm_tree.specs.Collecting.{IsCollected, IsOneLess}
+use Rattle.mm_tree.specs.OutsideLeaves.{IsSeen, IsOneLess, first_place, with_leaf, with_leaves}
+use Rattle.mm_tree.specs.declared.replace.Outside.{Outside}
 use Rattle.mm_tree.specs.NamedTree.{Tree, boundary, leaf_names, depth, nodes, is_one_of}
 use Rattle.mm_tree.specs.NamedTree.Tree.{Elem, Void, Join}
 use Rattle.mm_tree.specs.Nodes.{named_leaf}
@@ -19,11 +18,11 @@ use Rattle.mm_tree.specs.declared.replace.ReplaceFault.{ReplaceFault}
 use Rattle.mm_tree.specs.declared.replace.ReplaceFault.TheVariants.{Boundary, NameTaken, TooManyLeaves, TooDeep}
 use Rattle.mm_tree.specs.Paths.{Path, names_outside, with_node, node_at}
 use Rattle.mm_tree.specs.declared.node.Leaf.{Leaf}
-use Rattle.mm_tree.proofs.BuilderLemmas.{any_name, insert_new, none_distinct}
-use Rattle.mm_tree.proofs.NameLemmas.{distinct_left, distinct_right, distinct_apart, distinct_append}
-use Rattle.mm_tree.proofs.TreeLemmas.{by_cases, apart_back, outside_is_inside, nodes_of_leaves}
+use Rattle.mm_tree.proofs.BuilderLemmas.{insert_new}
+use Rattle.mm_tree.proofs.NameLemmas.{distinct_apart}
+use Rattle.mm_tree.proofs.TreeLemmas.{by_cases, nodes_of_leaves}
 use Rattle.mm_tree.proofs.PlaceLemmas.{IsPath-root, step_left, step_right}
-use Rattle.std.proofs.lemmas.Bool.{eq-eqb, ne_eqb, le-leb, lt-leb, both_ways}
+use Rattle.std.proofs.lemmas.Bool.{cases_lt, lt-ltb, le-ltb, eq-eqb, ne_eqb, le-leb, lt-leb, both_ways}
 use Rattle.mm_tree.proofs.StepLemmas.{path_root, path_of_left, path_of_right}
 use Rattle.mm_tree.proofs.Walks.{leaf_name, leaf_nodes}
 use Rattle.mm_tree.proofs.PathLemmas.{nodes_join, some_nodes}
@@ -31,9 +30,9 @@ use Rattle.mm_tree.proofs.PathLemmas.{nodes_join, some_nodes}
 abbrev Names : Type 0
 Names = List (List ℕ)
 
-all_append : (ks xs ys : Names) → insert_all (eq-value).it ks (xs ++ ys) ≡ insert_all (eq-value).it (insert_all (eq-value).it ks xs) ys
-all_append ks [] ys = refl
-all_append ks (x ∷ xs) ys = all_append (insert_key (eq-value).it ks x) xs ys
+leaves_append : (names : Names) (seen : Outside) (xs ys : Names) → with_leaves names seen (xs ++ ys) ≡ with_leaves names (with_leaves names seen xs) ys
+leaves_append names seen [] ys = refl
+leaves_append names seen (x ∷ xs) ys = leaves_append names (with_leaf names seen x) xs ys
 
 outside_root : (tree : Tree) → names_outside tree [] ≡ []
 unfolding names_outside
@@ -49,112 +48,240 @@ outside_right : (n : List ℕ) (op : Op) (left right : Tree) (path : Path) → n
 unfolding names_outside
 outside_right n op left right path = refl
 
-names_join : (n : List ℕ) (op : Op) (left right : Tree) → leaf_names (Join n op left right) ≡ leaf_names left ++ leaf_names right
+pub names_join : (n : List ℕ) (op : Op) (left right : Tree) → leaf_names (Join n op left right) ≡ leaf_names left ++ leaf_names right
 unfolding leaf_names
 names_join n op left right = refl
 
-pub collected_root : (tree : Tree) (at : Option ℕ) (old : Names) → at ≡ Some 0 → IsCollected tree at old old (Ok None)
-collected_root tree at old e =
-    subst (λ (x : Option ℕ). IsCollected tree x old old (Ok None)) (sym e) (
+pub seen_root : (tree : Tree) (at : Option ℕ) (names : Names) (old : Outside) → at ≡ Some 0 → IsSeen tree at names old old None
+seen_root tree at names old e =
+    subst (λ (x : Option ℕ). IsSeen tree x names old old None) (sym e) (
       some_nodes tree,
-      sym (ap (λ (w : Path). insert_all (eq-value).it old (names_outside tree w)) (path_root tree) ∙ ap (insert_all (eq-value).it old) (outside_root tree)),
+      sym (ap (λ (w : Path). with_leaves names old (names_outside tree w)) (path_root tree) ∙ ap (with_leaves names old) (outside_root tree)),
     )
 
-pub collected_leaf : (l : Leaf) (at less : Option ℕ) (old new : Names) → IsOneLess at less → new ≡ insert_key (eq-value).it old l.name →
-    IsCollected (named_leaf l) at old new (Ok less)
-collected_leaf l None None old new o e = e ∙ sym (ap (insert_all (eq-value).it old) (leaf_name l))
-collected_leaf l None (Some j) old new o e = absurd o
-collected_leaf l (Some k) None old new o e = absurd o
-collected_leaf l (Some k) (Some j) old new o e =
+pub seen_leaf : (l : Leaf) (at less : Option ℕ) (names : Names) (old new : Outside) → IsOneLess at less → new ≡ with_leaf names old l.name →
+    IsSeen (named_leaf l) at names old new less
+seen_leaf l None None names old new o e = e ∙ sym (ap (with_leaves names old) (leaf_name l))
+seen_leaf l None (Some j) names old new o e = absurd o
+seen_leaf l (Some k) None names old new o e = absurd o
+seen_leaf l (Some k) (Some j) names old new o e =
     let one = leaf_nodes l in
-    (omega arith, e ∙ sym (ap (insert_all (eq-value).it old) (leaf_name l)))
+    (omega arith, e ∙ sym (ap (with_leaves names old) (leaf_name l)))
 
-pub collected_join : (n : List ℕ) (op : Op) (left right : Tree) (at less rest : Option ℕ) (old mid new : Names) (result : Result (Option ℕ) NoMemory) →
-    (at ≡ Some 0 → ⊥) → IsOneLess at less → IsCollected left less old mid (Ok rest) → IsCollected right rest mid new result →
-    IsCollected (Join n op left right) at old new result
-collected_join n op left right at less rest old mid new (Err e) z o l r = tt
-collected_join n op left right None None None old mid new (Ok None) z o l r =
-    r ∙ ap (λ (ks : Names). insert_all (eq-value).it ks (leaf_names right)) l ∙ sym (all_append old (leaf_names left) (leaf_names right))
-    ∙ sym (ap (insert_all (eq-value).it old) (names_join n op left right))
-collected_join n op left right None None None old mid new (Ok (Some q)) z o l r = absurd r
-collected_join n op left right None None (Some m) old mid new (Ok x) z o l r = absurd l
-collected_join n op left right None (Some j) rest old mid new (Ok x) z o l r = absurd o
-collected_join n op left right (Some k) None rest old mid new (Ok x) z o l r = absurd o
-collected_join n op left right (Some k) (Some j) None old mid new (Ok None) z o l r =
+-- what is seen of two parts, one after the other
+seen_both : (names : Names) (old mid new : Outside) (xs ys all : Names) → mid ≡ with_leaves names old xs → new ≡ with_leaves names mid ys → all ≡ xs ++ ys →
+    new ≡ with_leaves names old all
+seen_both names old mid new xs ys all l r e =
+    r ∙ ap (λ (s : Outside). with_leaves names s ys) l ∙ sym (leaves_append names old xs ys) ∙ sym (ap (with_leaves names old) e)
+
+pub seen_join : (n : List ℕ) (op : Op) (left right : Tree) (at less rest last : Option ℕ) (names : Names) (old mid new : Outside) →
+    (at ≡ Some 0 → ⊥) → IsOneLess at less → IsSeen left less names old mid rest → IsSeen right rest names mid new last →
+    IsSeen (Join n op left right) at names old new last
+seen_join n op left right None None None None names old mid new z o l r =
+    seen_both names old mid new (leaf_names left) (leaf_names right) _ l r (names_join n op left right)
+seen_join n op left right None None None (Some q) names old mid new z o l r = absurd r
+seen_join n op left right None None (Some m) last names old mid new z o l r = absurd l
+seen_join n op left right None (Some j) rest last names old mid new z o l r = absurd o
+seen_join n op left right (Some k) None rest last names old mid new z o l r = absurd o
+seen_join n op left right (Some k) (Some j) None None names old mid new z o l r =
     let size = nodes_join n op left right in
     let a = l.0 in
     let e : k - 1 ≡ j = omega arith in
     let path = path_of_left k n op left right (omega arith) (omega arith) ∙ ap (λ (i : ℕ). true ∷ path_of i left) e in (
       omega arith,
-      r ∙ ap (λ (ks : Names). insert_all (eq-value).it ks (leaf_names right)) l.1 ∙ sym (all_append old (names_outside left (path_of j left)) (leaf_names right))
-          ∙ sym (ap (λ (w : Path). insert_all (eq-value).it old (names_outside (Join n op left right) w)) path
-          ∙ ap (insert_all (eq-value).it old) (outside_left n op left right (path_of j left))),
+      seen_both names old mid new (names_outside left (path_of j left)) (leaf_names right) _ l.1 r
+          (ap (names_outside (Join n op left right)) path ∙ outside_left n op left right (path_of j left)),
     )
-collected_join n op left right (Some k) (Some j) None old mid new (Ok (Some q)) z o l r = absurd r
-collected_join n op left right (Some k) (Some j) (Some m) old mid new (Ok None) z o l r =
+seen_join n op left right (Some k) (Some j) None (Some q) names old mid new z o l r = absurd r
+seen_join n op left right (Some k) (Some j) (Some m) None names old mid new z o l r =
     let size = nodes_join n op left right in
     let a = l.0 in
     let b = r.0 in
     let path = path_of_right k m n op left right (omega arith) (omega arith) in (
       omega arith,
-      r.1 ∙ ap (λ (ks : Names). insert_all (eq-value).it ks (names_outside right (path_of m right))) l.1
-          ∙ sym (all_append old (leaf_names left) (names_outside right (path_of m right)))
-          ∙ sym (ap (λ (w : Path). insert_all (eq-value).it old (names_outside (Join n op left right) w)) path
-          ∙ ap (insert_all (eq-value).it old) (outside_right n op left right (path_of m right))),
+      seen_both names old mid new (leaf_names left) (names_outside right (path_of m right)) _ l.1 r.1
+          (ap (names_outside (Join n op left right)) path ∙ outside_right n op left right (path_of m right)),
     )
-collected_join n op left right (Some k) (Some j) (Some m) old mid new (Ok (Some q)) z o l r =
+seen_join n op left right (Some k) (Some j) (Some m) (Some q) names old mid new z o l r =
     let size = nodes_join n op left right in
     let a = l.0 in
     let b = r.0 in (
       omega arith,
-      r.1 ∙ ap (λ (ks : Names). insert_all (eq-value).it ks (leaf_names right)) l.1 ∙ sym (all_append old (leaf_names left) (leaf_names right))
-          ∙ sym (ap (insert_all (eq-value).it old) (names_join n op left right)),
+      seen_both names old mid new (leaf_names left) (leaf_names right) _ l.1 r.1 (names_join n op left right),
     )
+
+-- ---- how many leaves were seen
+
+pub count_seen : (names : Names) (seen : Outside) (xs : Names) → (with_leaves names seen xs).leaves ≡ seen.leaves + length xs
+count_seen names seen [] = omega arith
+count_seen names seen (x ∷ xs) =
+    let e = count_seen names (with_leaf names seen x) xs in
+    omega arith
+
+few_outside : (tree : Tree) (path : Path) → length (names_outside tree path) ≤ length (leaf_names tree)
+unfolding names_outside
+few_outside (Elem n vec weight) [] = omega arith
+few_outside (Void n t) [] = omega arith
+few_outside (Join n op left right) [] = omega arith
+few_outside (Elem n vec weight) (step ∷ path) = omega arith
+few_outside (Void n t) (step ∷ path) = omega arith
+few_outside (Join n op left right) (true ∷ path) =
+    let a = few_outside left path in
+    let e = length-append (names_outside left path) (leaf_names right) in
+    let g = ap length (names_join n op left right) ∙ length-append (leaf_names left) (leaf_names right) in
+    omega arith
+few_outside (Join n op left right) (false ∷ path) =
+    let a = few_outside right path in
+    let e = length-append (leaf_names left) (names_outside right path) in
+    let g = ap length (names_join n op left right) ∙ length-append (leaf_names left) (leaf_names right) in
+    omega arith
+
+-- at most as many leaves as nodes were seen
+pub few_seen : (tree : Tree) (at rest : Option ℕ) (names : Names) (old new : Outside) → IsSeen tree at names old new rest → new.leaves ≤ old.leaves + nodes tree
+few_seen tree None None names old new s =
+    let e = ap (λ (o : Outside). o.leaves) s ∙ count_seen names old (leaf_names tree) in
+    let n = nodes_of_leaves tree in
+    omega arith
+few_seen tree None (Some rest) names old new s = absurd s
+few_seen tree (Some at) None names old new s =
+    let e = ap (λ (o : Outside). o.leaves) s.1 ∙ count_seen names old (names_outside tree (path_of at tree)) in
+    let l = few_outside tree (path_of at tree) in
+    let n = nodes_of_leaves tree in
+    omega arith
+few_seen tree (Some at) (Some rest) names old new s =
+    let e = ap (λ (o : Outside). o.leaves) s.1 ∙ count_seen names old (leaf_names tree) in
+    let n = nodes_of_leaves tree in
+    omega arith
 
 -- ---- the first name that is taken
 
-abbrev pub or_taken : Option (List ℕ) → Option (List ℕ) → Option (List ℕ)
-or_taken None other = other
-or_taken (Some name) other = Some name
+-- a place, one later
+later : Option ℕ → Option ℕ
+later None = None
+later (Some i) = Some (1 + i)
 
-taken_append : (taken xs ys : Names) → first_taken taken (xs ++ ys) ≡ or_taken (first_taken taken xs) (first_taken taken ys)
-taken_append taken [] ys = refl
-taken_append taken (x ∷ xs) ys = go (is_one_of x taken) (taken_append taken xs ys)
+position_next : {X : Type 0} (p : X → Bool) (x : X) (xs : List X) → position p (x ∷ xs) ≡ cond (p x) (Some 0) (later (position p xs))
+unfolding later
+position_next p x xs = go (p x)
   where
-    go : (b : Bool) → first_taken taken (xs ++ ys) ≡ or_taken (first_taken taken xs) (first_taken taken ys) →
-        (if b then Some x else first_taken taken (xs ++ ys)) ≡ or_taken (if b then Some x else first_taken taken xs) (first_taken taken ys)
-    go true e = refl
-    go false e = e
+    k : ℕ
+    k = position_or_len p xs
 
-pub taken_join : (taken : Names) (n : List ℕ) (op : Op) (left right : Tree) →
-    first_taken taken (leaf_names (Join n op left right)) ≡ or_taken (first_taken taken (leaf_names left)) (first_taken taken (leaf_names right))
-taken_join taken n op left right = ap (first_taken taken) (names_join n op left right) ∙ taken_append taken (leaf_names left) (leaf_names right)
+    go : (b : Bool) → cond (nat_lt (cond (not b) (1 + k) 0) (suc (length xs))) (Some (cond (not b) (1 + k) 0)) None
+        ≡ cond b (Some 0) (later (cond (nat_lt k (length xs)) (Some k) None))
+    go true = ap (λ (b : Bool). cond b (Some 0) None) (lt-ltb 0 (suc (length xs)) (omega arith))
+    go false = elim (cases_lt k (length xs)) [
+      | inl l ↦
+          ap (λ (b : Bool). cond b (Some (1 + k)) None) (lt-ltb (1 + k) (suc (length xs)) (omega arith))
+          ∙ sym (ap (λ (b : Bool). later (cond b (Some k) None)) (lt-ltb k (length xs) l))
+      | inr l ↦
+          ap (λ (b : Bool). cond b (Some (1 + k)) None) (le-ltb (1 + k) (suc (length xs)) (omega arith))
+          ∙ sym (ap (λ (b : Bool). later (cond b (Some k) None)) (le-ltb k (length xs) l))
+    ]
 
-pub taken_leaf : (taken : Names) (l : Leaf) (b : Bool) → b ≡ list_any ((eq-value).it l.name) taken →
-    first_taken taken (leaf_names (named_leaf l)) ≡ (if b then Some l.name else None)
-taken_leaf taken l b e =
-    ap (first_taken taken) (leaf_name l) ∙ ap (λ (x : Bool). if x then Some l.name else None) (sym (any_name l.name taken) ∙ sym e)
+-- in a list of one name
+pub only_place : (p : List ℕ → Bool) (names keys : Names) (name : List ℕ) (b : Bool) → 1 ≤ length names → length names < 2 → name ≡ get_or names 0 name →
+    names ≡ keys → p name ≡ b → cond b (Some 0) None ≡ position p keys
+unfolding later
+only_place p [] keys name b l m e k q = absurd (omega arith)
+only_place p (n ∷ []) keys name b l m e k q =
+    sym (ap (position p) (sym k) ∙ position_next p n [] ∙ ap (λ (c : Bool). cond c (Some 0) None) (ap p (sym e) ∙ q))
+only_place p (n ∷ x ∷ names) keys name b l m e k q = absurd (omega arith)
 
--- ---- all names outside a node
+first_of_none : (a : Option ℕ) → first_place a None ≡ a
+first_of_none None = refl
+first_of_none (Some i) = refl
 
-pub outside_distinct : (tree : Tree) (path : Path) → IsDistinct bytes_eq (leaf_names tree) → IsDistinct bytes_eq (names_outside tree path)
-unfolding names_outside leaf_names
-outside_distinct (Elem n vec weight) [] d = none_distinct
-outside_distinct (Void n t) [] d = none_distinct
-outside_distinct (Join n op left right) [] d = none_distinct
-outside_distinct (Elem n vec weight) (step ∷ path) d = d
-outside_distinct (Void n t) (step ∷ path) d = d
-outside_distinct (Join n op left right) (true ∷ path) d =
-    let back = apart_back (leaf_names left) (leaf_names right) (distinct_apart (leaf_names left) (leaf_names right) d) in
-    distinct_append (names_outside left path) (leaf_names right)
-    (outside_distinct left path (distinct_left (leaf_names left) (leaf_names right) d)) (distinct_right (leaf_names left) (leaf_names right) d)
-    (apart_back (leaf_names right) (names_outside left path) (λ x q. outside_is_inside x left path (back x q)))
-outside_distinct (Join n op left right) (false ∷ path) d =
-    distinct_append (leaf_names left) (names_outside right path)
-    (distinct_left (leaf_names left) (leaf_names right) d) (outside_distinct right path (distinct_right (leaf_names left) (leaf_names right) d))
-    (λ x q. outside_is_inside x right path (distinct_apart (leaf_names left) (leaf_names right) d x q))
+first_assoc : (a b c : Option ℕ) → first_place (first_place a b) c ≡ first_place a (first_place b c)
+first_assoc None b c = refl
+first_assoc (Some i) None c = refl
+first_assoc (Some i) (Some j) None = refl
+first_assoc (Some i) (Some j) (Some k) = ap (λ (n : ℕ). Some n) (omega arith)
 
-insert_distinct : (ks xs : Names) → IsDistinct bytes_eq (ks ++ xs) → insert_all (eq-value).it ks xs ≡ ks ++ xs
+-- the first place at which one of two tests passes
+either_position : {X : Type 0} (p q : X → Bool) (xs : List X) → position (λ x. p x || q x) xs ≡ first_place (position p xs) (position q xs)
+unfolding later
+either_position p q [] = refl
+either_position p q (x ∷ xs) =
+    position_next (λ y. p y || q y) x xs
+    ∙ go (p x) (q x) (position p xs) (position q xs) (either_position p q xs)
+    ∙ sym (ap₂ first_place (position_next p x xs) (position_next q x xs))
+  where
+    go : (a b : Bool) (m n : Option ℕ) → position (λ x. p x || q x) xs ≡ first_place m n →
+        cond (a || b) (Some 0) (later (position (λ x. p x || q x) xs)) ≡ first_place (cond a (Some 0) (later m)) (cond b (Some 0) (later n))
+    go true true m n e = ap (λ (k : ℕ). Some k) (omega arith)
+    go true false m None e = refl
+    go true false m (Some j) e = ap (λ (k : ℕ). Some k) (omega arith)
+    go false true None n e = refl
+    go false true (Some i) n e = ap (λ (k : ℕ). Some k) (omega arith)
+    go false false None n e = ap later e
+    go false false (Some i) None e = ap later e
+    go false false (Some i) (Some j) e = ap later e ∙ ap (λ (k : ℕ). Some k) (omega arith)
+
+none_passes : {X : Type 0} (xs : List X) → position (λ x. false) xs ≡ None
+unfolding later
+none_passes [] = refl
+none_passes (x ∷ xs) = position_next (λ y. false) x xs ∙ ap later (none_passes xs)
+
+swapped : (x y : List ℕ) → bytes_eq x y ≡ bytes_eq y x
+swapped x y = go (bytes_eq x y) refl (bytes_eq y x) refl
+  where
+    go : (a : Bool) → bytes_eq x y ≡ a → (b : Bool) → bytes_eq y x ≡ b → a ≡ b
+    go true p true q = refl
+    go true p false q = sym (bytes_same y) ∙ ap (bytes_eq y) (sym (same_bytes x y p)) ∙ q
+    go false p true q = sym p ∙ ap (bytes_eq x) (same_bytes y x q) ∙ bytes_same x
+    go false p false q = refl
+
+pub found_below : {X : Type 0} (p : X → Bool) (xs : List X) (i : ℕ) → position p xs ≡ Some i → i < length xs
+unfolding later
+found_below p [] i e = cc
+found_below p (x ∷ xs) i e = go (p x) (position p xs) (found_below p xs) (sym (position_next p x xs) ∙ e)
+  where
+    go : (b : Bool) (m : Option ℕ) → ((j : ℕ) → m ≡ Some j → j < length xs) → cond b (Some 0) (later m) ≡ Some i → i < suc (length xs)
+    go true m h q = let z : 0 ≡ i = cc in omega arith
+    go false None h q = cc
+    go false (Some j) h q =
+        let l = h j refl in
+        let z : 1 + j ≡ i = cc in
+        omega arith
+
+-- what was seen is taken first where the first name that is one of the leaves' stands
+seen_first : (names : Names) (seen : Outside) (xs : Names) →
+    (with_leaves names seen xs).taken ≡ first_place seen.taken (position (λ name. is_one_of name xs) names)
+seen_first names seen [] = sym (ap (first_place seen.taken) (none_passes names) ∙ first_of_none seen.taken)
+seen_first names seen (x ∷ xs) =
+    seen_first names (with_leaf names seen x) xs
+    ∙ first_assoc seen.taken (position (bytes_eq x) names) (position (λ name. is_one_of name xs) names)
+    ∙ ap (first_place seen.taken)
+    (sym (either_position (bytes_eq x) (λ name. is_one_of name xs) names)
+    ∙ ap (λ (p : List ℕ → Bool). position p names) (λ i name. swapped x name i || is_one_of name xs))
+
+-- the name at a place
+abbrev pub name_at : Names → Option ℕ → Option (List ℕ)
+name_at names None = None
+name_at names (Some i) = Some (get_or names i [])
+
+taken_at : (taken names : Names) → first_taken taken names ≡ name_at names (position (λ name. is_one_of name taken) names)
+unfolding later
+taken_at taken [] = refl
+taken_at taken (name ∷ names) =
+    go (is_one_of name taken) (position (λ n. is_one_of n taken) names) (taken_at taken names)
+    ∙ sym (ap (name_at (name ∷ names)) (position_next (λ n. is_one_of n taken) name names))
+  where
+    go : (b : Bool) (m : Option ℕ) → first_taken taken names ≡ name_at names m →
+        (if b then Some name else first_taken taken names) ≡ name_at (name ∷ names) (cond b (Some 0) (later m))
+    go true m e = refl
+    go false None e = e
+    go false (Some i) e =
+        let s : 1 + i ≡ suc i = omega arith in
+        e ∙ sym (ap (λ (k : ℕ). Some (get_or (name ∷ names) k [])) s)
+
+-- names that are put into a set
+pub all_append : (ks xs ys : Names) → insert_all (eq-value).it ks (xs ++ ys) ≡ insert_all (eq-value).it (insert_all (eq-value).it ks xs) ys
+all_append ks [] ys = refl
+all_append ks (x ∷ xs) ys = all_append (insert_key (eq-value).it ks x) xs ys
+
+pub insert_distinct : (ks xs : Names) → IsDistinct bytes_eq (ks ++ xs) → insert_all (eq-value).it ks xs ≡ ks ++ xs
 insert_distinct ks [] d = sym (append-nil ks)
 insert_distinct ks (x ∷ xs) d =
     let absent : is_one_of x ks ≡ false = by_cases (is_one_of x ks)
@@ -162,16 +289,6 @@ insert_distinct ks (x ∷ xs) d =
     let more = append_assoc ks (x ∷ []) xs in
     ap (λ (ns : Names). insert_all (eq-value).it ns xs) (insert_new ks x absent)
     ∙ insert_distinct (ks ++ x ∷ []) xs (subst (λ (ns : Names). IsDistinct bytes_eq ns) (sym more) d) ∙ more
-
-pub outside_collected : (tree : Tree) (at : ℕ) (none keys : Names) (rest : Option ℕ) → none ≡ [] → at < nodes tree → IsDistinct bytes_eq (leaf_names tree) →
-    IsCollected tree (Some at) none keys (Ok rest) → keys ≡ names_outside tree (path_of at tree)
-outside_collected tree at none keys None e l d c =
-    c.1 ∙ ap (λ (ks : Names). insert_all (eq-value).it ks (names_outside tree (path_of at tree))) e
-    ∙ insert_distinct [] (names_outside tree (path_of at tree)) (outside_distinct tree (path_of at tree) d)
-outside_collected tree at none keys (Some rest) e l d c =
-    let a = c.0 in
-    let no : ⊥ = omega arith in
-    absurd no
 
 -- ---- the size of the tree after an exchange
 
@@ -280,26 +397,42 @@ fault_free tree new path e p l d =
 
 -- ---- what the test for an exchange knows
 
--- the names outside the node are collected
-pub record IsReady (tree new : Tree) (at : ℕ) (keys : Names) : Type 0 where
-  pub same : boundary (node_at tree (path_of at tree)) ≡ boundary new
-  pub names : keys ≡ names_outside tree (path_of at tree)
-  pub path : IsPath tree (path_of at tree)
+abbrev pub nothing_seen : Outside
+nothing_seen = record { leaves = 0; taken = None }
 
-pub ready : (tree new : Tree) (at : ℕ) (none keys : Names) (rest : Option ℕ) → none ≡ [] → at < nodes tree → IsDistinct bytes_eq (leaf_names tree) →
-    IsCollected tree (Some at) none keys (Ok rest) → boundary (node_at tree (path_of at tree)) ≡ boundary new → IsReady tree new at keys
-ready tree new at none keys rest e l d c b =
-    record { same = b; names = outside_collected tree at none keys rest e l d c; path = path_is at tree }
+-- the leaves outside the node of this number were seen
+abbrev pub IsSeenOutside : (tree new : Tree) → ℕ → Outside → Type 0
+IsSeenOutside tree new at seen = seen ≡ with_leaves (leaf_names new) nothing_seen (names_outside tree (path_of at tree))
 
-pub ready_name : (tree new : Tree) (at : ℕ) (keys : Names) (o : Option (List ℕ)) → IsReady tree new at keys → o ≡ first_taken keys (leaf_names new) →
-    first_taken (names_outside tree (path_of at tree)) (leaf_names new) ≡ o
-ready_name tree new at keys o r e = sym (e ∙ ap (λ (ks : Names). first_taken ks (leaf_names new)) r.names)
+pub seen_within : (tree inner : Tree) (at k : ℕ) (names : Names) (old seen : Outside) (rest : Option ℕ) → inner ≡ tree → k ≡ at → old ≡ nothing_seen →
+    at < nodes tree → IsSeen inner (Some k) names old seen rest → seen ≡ with_leaves names nothing_seen (names_outside tree (path_of at tree))
+seen_within tree inner at k names old seen None i q n l s =
+    s.1 ∙ ap (λ (o : Outside). with_leaves names o (names_outside inner (path_of k inner))) n
+    ∙ ap₂ (λ (t : Tree) (j : ℕ). with_leaves names nothing_seen (names_outside t (path_of j t))) i q
+seen_within tree inner at k names old seen (Some rest) i q n l s =
+    let e = s.0 in
+    let size = ap nodes i in
+    let no : ⊥ = omega arith in
+    absurd no
+
+pub taken_is : (tree new : Tree) (at : ℕ) (seen : Outside) → IsSeenOutside tree new at seen →
+    first_taken (names_outside tree (path_of at tree)) (leaf_names new) ≡ name_at (leaf_names new) seen.taken
+taken_is tree new at seen e =
+    let outside = names_outside tree (path_of at tree) in
+    taken_at outside (leaf_names new)
+    ∙ ap (name_at (leaf_names new)) (sym (ap (λ (o : Outside). o.taken) e ∙ seen_first (leaf_names new) nothing_seen outside))
+
+-- the place of the first name that is taken is that of a name
+pub taken_within : (tree new : Tree) (at : ℕ) (seen : Outside) (i : ℕ) → IsSeenOutside tree new at seen → seen.taken ≡ Some i → i < length (leaf_names new)
+taken_within tree new at seen i e t =
+    let outside = names_outside tree (path_of at tree) in
+    found_below (λ name. is_one_of name outside) (leaf_names new) i
+    (sym (ap (λ (o : Outside). o.taken) e ∙ seen_first (leaf_names new) nothing_seen outside) ∙ t)
 
 -- how many leaves there would be
-pub leaves_counted : (tree new : Tree) (at : ℕ) (keys : Names) (n : ℕ) → IsReady tree new at keys → n ≡ nodes new →
-    length keys + (n + 1) / 2 ≡ length (leaf_names (with_node tree (path_of at tree) new))
-leaves_counted tree new at keys n r e =
-    let a = leaves_after tree new (path_of at tree) r.path in
-    let b = ap (λ (ks : Names). length ks) r.names in
-    let c = nodes_of_leaves new in
+pub leaves_counted : (tree new : Tree) (at : ℕ) (seen : Outside) → IsSeenOutside tree new at seen →
+    seen.leaves + length (leaf_names new) ≡ length (leaf_names (with_node tree (path_of at tree) new))
+leaves_counted tree new at seen e =
+    let a = leaves_after tree new (path_of at tree) (path_is at tree) in
+    let b = ap (λ (o : Outside). o.leaves) e ∙ count_seen (leaf_names new) nothing_seen (names_outside tree (path_of at tree)) in
     omega arith

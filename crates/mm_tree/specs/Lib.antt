@@ -10,6 +10,6 @@ pub mod Places
 pub mod Weights
 pub mod Steps
 pub mod Replacing
-pub mod Collecting
+pub mod OutsideLeaves
 pub mod Building
 pub mod BuilderView

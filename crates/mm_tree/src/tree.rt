@@ -1,19 +1,24 @@
 //! Trees that are always valid.
 
-ghost use Rattle.std.specs.Prelude.{◌≡◌, ◌≤◌, ℕ, nat_abs, Some, None, IfSome, IfOk, IsTrue};
+ghost use Rattle.std.specs.Prelude.{◌≡◌, ◌≤◌, ◌+◌, ℕ, nat_abs, Some, None, IfSome, IfOk, IsTrue};
+ghost use Rattle.std.specs.List.{IsDistinct};
+ghost use Rattle.std.specs.Str.{bytes_eq};
 ghost use Rattle.mm_tree.specs.NamedTree.{boundary, depth, nodes, leaf_names, element_names, is_one_of};
 ghost use Rattle.mm_tree.specs.Nodes.{named, IsOver};
 ghost use Rattle.mm_tree.specs.Places.{IsPlaceOf, path_above, path_of, place_at_end};
 ghost use Rattle.mm_tree.specs.Replacing.{Answers, replace_fault};
 ghost use Rattle.mm_tree.specs.ValidTree.{IsValidTree, most_weight};
-ghost use Rattle.mm_tree.specs.Paths.{node_at, with_node, with_weight};
+ghost use Rattle.mm_tree.specs.OutsideLeaves.{with_leaves};
+ghost use Rattle.mm_tree.specs.Paths.{names_outside, node_at, with_node, with_weight};
 ghost use Rattle.mm_tree.specs.Weights.{weight_named};
 
 use crate::place::{Reached, search};
+use crate::replace::Outside;
 use crate::splice::{Sought, Spliced};
 use crate::{MAX_DEPTH, MAX_LEAVES, Node, Place, ReplaceFault, replace, splice, walk};
 use indexmap::IndexSet;
 use mm_base::{Name, NameList, NoMemory};
+use mm_field::Field;
 use std::alloc::Global;
 use std::marker::Model;
 
@@ -46,6 +51,13 @@ impl Tree {
         ensures valid { IsValidTree self.now.f self.now.tree }
     {
         &self.node
+    }
+
+    /// The field of its vectors and operators.
+    pub fn field(&self) -> Field
+        ensures { result ≡ self.now.f }
+    {
+        walk::field_of(&self.node)
     }
 
     /// How many digits the boundary has.
@@ -89,6 +101,16 @@ impl Tree {
     {
         let mut names = NameList::new(alloc);
         walk::push_leaves(alloc, &self.node, &mut names)?;
+        Ok(names)
+    }
+
+    /// The names of all elements, from left to right. They are different.
+    pub fn elements(&self, alloc: Global) -> Result<NameList, NoMemory>
+        ensures names { IfOk result (λ names. names ≡ element_names self.now.tree) }
+        ensures different { IfOk result (λ names. IsDistinct bytes_eq names) }
+    {
+        let mut names = NameList::new(alloc);
+        walk::push_elements(alloc, &self.node, &mut names)?;
         Ok(names)
     }
 
@@ -147,22 +169,48 @@ impl Tree {
         if old != given {
             return Err(ReplaceFault::Boundary(old, given));
         }
-        let mut taken = IndexSet::new(alloc);
-        if replace::collect_outside(&self.node, Some(place.number()), &mut taken).is_err() {
-            return Err(ReplaceFault::NoMemory);
+        let names = new.leaf_set(alloc)?;
+        let outside = self.outside(place, &names);
+        if let Some(i) = outside.taken {
+            return Err(ReplaceFault::NameTaken(names[i]));
         }
-        if let Some(name) = replace::first_taken(&new.node, &taken) {
-            return Err(ReplaceFault::NameTaken(name));
-        }
-        // A tree has one leaf more than it has joins.
-        let leaves = taken.len() + (walk::nodes(&new.node) as usize + 1) / 2;
-        if leaves > MAX_LEAVES {
+        if outside.leaves + names.len() > MAX_LEAVES {
             return Err(ReplaceFault::TooManyLeaves);
         }
-        if place.depth() + walk::depth(&new.node) > MAX_DEPTH {
+        if self.depth_at(place, new) > MAX_DEPTH {
             return Err(ReplaceFault::TooDeep);
         }
         Ok(())
+    }
+
+    /// The names of the leaves in a set, from left to right.
+    fn leaf_set(&self, alloc: Global) -> Result<IndexSet<Name>, NoMemory>
+        ensures { IfOk result (λ names. names.keys ≡ leaf_names self.now.tree) }
+    {
+        let mut names = IndexSet::new(alloc);
+        replace::add_names(&self.node, &mut names)?;
+        Ok(names)
+    }
+
+    /// How deep the deepest leaf of a tree stands that is put at a place.
+    fn depth_at(&self, place: &Place, new: &Tree) -> u32
+        requires { IsPlaceOf self.now.tree place.now }
+        ensures value { result ≡ place.now.depth + depth new.now.tree }
+        ensures shallow { depth self.now.tree ≤ 1023 }
+    {
+        let _ = &self.node;
+        place.depth() + walk::depth(&new.node)
+    }
+
+    /// What is seen of the leaves that are not below the node at a place.
+    fn outside(&self, place: &Place, names: &IndexSet<Name>) -> Outside
+        requires { IsPlaceOf self.now.tree place.now }
+        ensures few { result.leaves ≤ 16383 }
+        ensures seen { result ≡ with_leaves names.now.keys (record { leaves = 0; taken = None }) (names_outside self.now.tree (path_of place.now.number self.now.tree)) }
+    {
+        let mut seen = Outside::nothing();
+        replace::see_outside(&self.node, Some(place.number()), names, &mut seen);
+        seen
     }
 
     /// Puts a tree at a place, and gives the tree that stood there. The same place then has the root of the new one.

@@ -116,6 +116,35 @@ pub(crate) fn push_leaves(alloc: Global, node: &Node, names: &mut NameList) -> R
     }
 }
 
+/// Adds the name of a leaf to a list, where it has an element.
+#[tactic(auto, using(crate::proofs::ElementLemmas::element_name, crate::proofs::ElementLemmas::no_element))]
+fn push_element(alloc: Global, leaf: &Leaf, names: &mut NameList) -> Result<(), NoMemory>
+    ensures { OnOk result (names.new ≡ names.old ++ element_names (named_leaf leaf.now)) }
+{
+    match &leaf.item {
+        Some(_) => names.push(alloc, leaf.name),
+        None => Ok(()),
+    }
+}
+
+/// Adds the names of the elements to a list, from left to right.
+#[tactic(auto, unfolding(crate::specs::Nodes::named, crate::specs::NamedTree::element_names))]
+pub(crate) fn push_elements(
+    alloc: Global,
+    node: &Node,
+    names: &mut NameList,
+) -> Result<(), NoMemory>
+    ensures { OnOk result (names.new ≡ names.old ++ element_names (named node.now)) }
+{
+    match node {
+        Node::Leaf(leaf) => push_element(alloc, leaf, names),
+        Node::Join(_, _, left, right) => {
+            push_elements(alloc, left, names)?;
+            push_elements(alloc, right, names)
+        }
+    }
+}
+
 /// The weight of the element of a name, if there is one.
 #[tactic(auto, unfolding(crate::specs::Nodes::named, crate::specs::Weights::weight_named))]
 pub(crate) fn weight_of(node: &Node, name: &Name) -> Option<i64>

@@ -1,4 +1,4 @@
-use Rattle.std.proofs.Common.{ℕ, ◌≡◌, map, length}
+use Rattle.std.proofs.Common.{◌≡◌, map, length}
 use Rattle.mm_linear.specs.Eliminate.{cleared}
 use Rattle.mm_matrix.proofs.RowLemmas.{digits_of, written_to}
 use Rattle.mm_matrix.proofs.elimination.clear_first.Given as goal

@@ -10,7 +10,7 @@ returns-in_default c =
     let n = length c.args.row.now in
     let u = c.in_ok-rest.rest.items in
     let zero : c.deref.result.now ≡ zeros (length c.deref.result.now) = c.in_default.ensures.none in
-    nothing_new c.args.f n (map digits_of c.args.rows.now.items) c.args.leads.now.items c.args.row.now u c.requires.reduced.each c.in_ok-rest.ensures
+    nothing_new c.args.f n (map digits_of c.args.rows.now.items) c.args.leads.now.items c.args.row.now u c.requires.reduced.each c.requires.vector c.in_ok-rest.ensures
     (sym c.deref.ensures.value ∙ zero ∙ ap zeros (ap length c.deref.ensures.value ∙ c.in_ok-rest.ensures.vector.len))
 
 pub returns : goal.returns

@@ -1,11 +1,10 @@
-use Rattle.std.proofs.Common.{ℕ, ◌≡◌, List, [], ◌∷◌, ◌++◌, Bool, true, false, cond, map, sym, ap, ◌∙◌, subst, Contains, refl}
+use Rattle.std.proofs.Common.{ℕ, ◌≡◌, List, [], ◌∷◌, ◌++◌, Bool, false, cond, map, sym, ap, ◌∙◌, subst, Contains, refl}
 use Rattle.std.proofs.lemmas.Bool.{both_ways, false_from_ne_true}
 use Rattle.std.specs.Result.{OnOk}
 use Rattle.mm_field.specs.declared.Field.{Field}
 use Rattle.mm_field.specs.Vectors.{IsVector}
 use Rattle.mm_linear.specs.Coordinates.{unit, is_pivot}
 use Rattle.mm_linear.proofs.BasisLemmas.{IsVector-unit}
-use Rattle.mm_matrix.specs.MatrixValue.{MatrixValue}
 use Rattle.mm_matrix.specs.Projections.{kernel_vector, kernel_vector_at}
 use Rattle.mm_matrix.proofs.RowLemmas.{digits_of}
 use Rattle.mm_matrix.proofs.NullLemmas.{IsVector-projected, leads_inside}

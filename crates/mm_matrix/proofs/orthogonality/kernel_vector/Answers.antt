@@ -1,9 +1,7 @@
-use Rattle.std.proofs.Common.{ℕ, ◌≡◌, List, length, map, drop, sym, ap, ◌∙◌, subst, arith}
+use Rattle.std.proofs.Common.{ℕ, ◌≡◌, List, length, map, drop, sym, ap, ◌∙◌}
 use Rattle.std.proofs.Math.ListN.{set, length-set}
-use Rattle.std.specs.Vec.{with_items}
 use Rattle.std.proofs.lemmas.List.{take_at}
-use Rattle.mm_field.specs.Vectors.{zeros, vector_sum}
-use Rattle.mm_field.proofs.VectorLemmas.{length-vector_sum}
+use Rattle.mm_field.specs.Vectors.{vector_sum}
 use Rattle.mm_linear.specs.Coordinates.{unit}
 use Rattle.mm_linear.proofs.BasisLemmas.{IsVector-unit}
 use Rattle.mm_matrix.specs.Projections.{left, kernel_vector}

@@ -1,9 +1,7 @@
-use Rattle.std.proofs.Common.{ℕ, ◌≡◌, List, sym, ap, ◌∙◌, subst, refl}
-use Rattle.mm_field.specs.declared.Field.{Field}
-use Rattle.mm_field.specs.Vectors.{AreVectors, SameRowSpace}
+use Rattle.std.proofs.Common.{sym, ◌∙◌, subst, refl}
 use Rattle.mm_linear.specs.ReducedEchelon.{reduced_basis}
 use Rattle.mm_linear.proofs.ReducedEchelonLemmas.{reduced_basis_is}
-use Rattle.mm_matrix.specs.MatrixValue.{MatrixValue, HasRowSpace}
+use Rattle.mm_matrix.specs.MatrixValue.{MatrixValue}
 use Rattle.mm_matrix.specs.Orthogonal.{IsNullOf, IsOrthogonalBasis}
 use Rattle.mm_matrix.proofs.FreeLemmas.{basis_of_null}
 use Rattle.mm_matrix.proofs.orthogonality.orthogonal.Goals as goal

@@ -2,7 +2,7 @@ use Rattle.std.proofs.Common.{rules, ◌≡◌, ◌<◌, ℕ, ◌+◌, ◌∷◌
 use Rattle.std.proofs.lemmas.List.{map_push, length-map}
 use Rattle.mm_field.specs.Vectors.{AreVectors}
 use Rattle.mm_linear.specs.ReducedEchelon.{IsLeftBasis}
-use Rattle.mm_linear.specs.Subspaces.{boundary_space}
+use Rattle.mm_logic.specs.BoundarySpaces.{boundary_space}
 use Rattle.mm_reference.specs.Rows.{rows_of}
 use Rattle.mm_reference.specs.Spaces.{IsSpace, IsReducedRow}
 use Rattle.mm_reference.proofs.ColumnLemmas.{row_at}

@@ -1,4 +1,4 @@
-use Rattle.mm_linear.specs.Subspaces.{boundary_space}
+use Rattle.mm_logic.specs.BoundarySpaces.{boundary_space}
 use Rattle.mm_linear.specs.ReducedEchelon.{IsLeftBasis}
 use Rattle.mm_reference.specs.Rows.{rows_of}
 use Rattle.mm_reference.specs.Spaces.{IsSpace}

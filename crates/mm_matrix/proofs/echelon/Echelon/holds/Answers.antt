@@ -1,4 +1,4 @@
-use Rattle.std.proofs.Common.{ℕ, ◌≡◌, ◌↔◌, List, length, map, sym, subst, Option}
+use Rattle.std.proofs.Common.{ℕ, ◌↔◌, map, sym, subst}
 use Rattle.std.specs.Bool.{IsTrue}
 use Rattle.std.specs.Option.{MatchOption}
 use Rattle.mm_field.specs.Vectors.{IsVector, InSpan}

@@ -1,5 +1,4 @@
-use Rattle.std.proofs.Common.{ℕ, ◌≡◌, List, ◌++◌, length, map, sym, ap, ◌∙◌, subst, arith, refl}
-use Rattle.mm_field.specs.Vectors.{IsVector}
+use Rattle.std.proofs.Common.{ℕ, ◌≡◌, List, ◌++◌, map, sym, ap, ◌∙◌, subst, arith, refl}
 use Rattle.mm_matrix.specs.MatrixValue.{MatrixValue}
 use Rattle.mm_matrix.specs.Orthogonal.{IsNullOf}
 use Rattle.mm_matrix.specs.Projections.{kernel_vectors, kernel_vector_at}

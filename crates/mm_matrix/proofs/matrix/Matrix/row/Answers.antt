@@ -1,4 +1,4 @@
-use Rattle.std.proofs.Common.{◌<◌, ◌∙◌, length, ap, sym, subst, arith, List, ℕ}
+use Rattle.std.proofs.Common.{◌<◌, length, ap, sym, subst, arith, List, ℕ}
 use Rattle.std.proofs.lemmas.List.{length-map}
 use Rattle.mm_field.specs.Vectors.{IsVector}
 use Rattle.mm_matrix.specs.MatrixValue.{MatrixValue}

@@ -1,10 +1,8 @@
-use Rattle.std.proofs.Common.{ℕ, ◌≡◌, ◌<◌, List, [], length, get_or, sym, ap, ap₂, ◌∙◌, arith, map, subst, refl}
+use Rattle.std.proofs.Common.{ℕ, ◌<◌, List, [], length, get_or, sym, ap, ◌∙◌, arith, map, subst}
 use Rattle.std.proofs.Math.ListN.{set}
 use Rattle.std.proofs.lemmas.List.{map-set, length-map}
 use Rattle.std.specs.Vec.{with_item}
-use Rattle.mm_field.specs.declared.Field.{Field}
 use Rattle.mm_field.specs.Digits.{order}
-use Rattle.mm_field.specs.Vectors.{IsVector}
 use Rattle.mm_matrix.specs.MatrixValue.{MatrixValue}
 use Rattle.mm_matrix.proofs.RowLemmas.{digits_of, item_is, item_vector, IsVector-set, AreVectors-set}
 use Rattle.mm_matrix.proofs.matrix.Matrix.set.Goals as goal

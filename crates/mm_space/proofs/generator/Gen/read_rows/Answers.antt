@@ -3,6 +3,7 @@ use Rattle.std.specs.Prelude.{All}
 use Rattle.std.proofs.lemmas.List.Elements.{All-append, All-cons, All-nil}
 use Rattle.mm_field.specs.Vectors.{AreDigits}
 use Rattle.mm_space.specs.VectorText.{IsVectorText, gen_text}
+use Rattle.mm_space.proofs.DigitTextLemmas.{no_vector, text_of_vector}
 use Rattle.mm_space.proofs.GenTextLemmas.{Remains, at_slash, front_text, front_text-push, front_text-end, remains_next, vector_before, vector_at_end}
 use Rattle.mm_space.proofs.generator.Gen.read_rows.Goals as goal
 
@@ -10,21 +11,21 @@ pub returns-in-None-read-clause-none : goal.returns-in-None-read-clause-none
 returns-in-None-read-clause-none c = λ others h.
     let found = c.in-Some.ensures in
     let v = c.loop-k.invariant.remains others h in
-    c.in-None-read.ensures.none v.next
+    no_vector c.args.f v.next c.front.result.now c.in-None-read.ensures.exact
     (subst (λ bytes. IsVectorText c.args.f v.next bytes) (sym c.front.ensures)
     (vector_before c.args.f others c.args.bytes.now c.loop-k.k c.in-Some.p c.loop-k.rest.now h v found.found.0 found.found.1 found.first))
 
 pub returns-in-None-read-2-clause-none : goal.returns-in-None-read-2-clause-none
 returns-in-None-read-2-clause-none c = λ others h.
     let v = c.loop-k.invariant.remains others h in
-    c.in-None-read-2.ensures.none v.next
+    no_vector c.args.f v.next c.loop-k.rest.now c.in-None-read-2.ensures.exact
     (vector_at_end c.args.f others c.args.bytes.now c.loop-k.k c.loop-k.rest.now h v c.in-None.ensures.none)
 
-pub returns-in-None-clause-shown : goal.returns-in-None-clause-shown
-returns-in-None-clause-shown c =
+pub returns-in-None-clause-text : goal.returns-in-None-clause-text
+returns-in-None-clause-text c =
     let h = c.loop-k.invariant in
     let v = c.in-Some-read-2.v in
-    let read = c.in-Some-read-2.ensures.shown in
+    let read = text_of_vector c.args.f c.loop-k.rest.now v (sym c.in-Some-read-2.ensures.exact) in
     let rows_are = c.push-in-Some-read-2.ensures in
     let count = h.count in
     let more = c.loop-k-test.true in
@@ -45,7 +46,7 @@ pub loop-k-preserved : goal.loop-k-preserved
 loop-k-preserved c =
     let h = c.loop-k.invariant in
     let v = c.in-Some-read.v in
-    let read = c.in-Some-read.ensures.shown in
+    let read = text_of_vector c.args.f c.front.result.now v (sym c.in-Some-read.ensures.exact) in
     let found = c.in-Some.ensures in
     let rows_are = c.push.ensures in
     let count = h.count in

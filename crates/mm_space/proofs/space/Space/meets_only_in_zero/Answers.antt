@@ -1,7 +1,7 @@
 use Rattle.std.proofs.Common.{sym, subst, ap, ◌∙◌, ◌↔◌}
 use Rattle.std.specs.Prelude.{IsTrue}
 use Rattle.mm_field.specs.Vectors.{InSpan}
-use Rattle.mm_linear.specs.Meets.{MeetTrivially}
+use Rattle.mm_linear.specs.Sums.{MeetTrivially}
 use Rattle.mm_space.specs.SpaceValue.{SpaceValue, corner}
 use Rattle.mm_space.proofs.KeptLemmas.{held_of, held_as, meet_of}
 use Rattle.mm_space.proofs.space.Space.meets_only_in_zero.Goals as goal

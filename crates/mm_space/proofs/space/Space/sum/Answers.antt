@@ -2,7 +2,7 @@ use Rattle.std.proofs.Common.{sym, subst, ap, ◌∙◌, ◌++◌, ◌↔◌}
 use Rattle.mm_space.specs.SpaceValue.{SpaceValue, IsIn, IsSpanOf, corner}
 use Rattle.mm_space.proofs.KeptLemmas.{held_of, held_as, kept_of, span_of_both, corner_each}
 use Rattle.mm_space.proofs.EqualLemmas.{sums_of}
-use Rattle.mm_linear.specs.Joins.{InSum}
+use Rattle.mm_linear.specs.Sums.{InSum}
 use Rattle.mm_field.specs.Vectors.{AreVectors, InSpan}
 use Rattle.mm_space.proofs.space.Space.sum.Goals as goal
 

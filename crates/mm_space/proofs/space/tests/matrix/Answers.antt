@@ -10,5 +10,5 @@ returns-after-loop-k c =
     let ended = c.loop-k-test.false in (
       count,
       All-from_get_or (λ v. IsVector c.args.f c.args.r v) g []
-          (λ k l. record { len = c.loop-k.invariant k (omega arith); digits = c.in-Some.ensures.shown.digits k [] l }),
+          (λ k l. record { len = c.loop-k.invariant k (omega arith); digits = c.in-Some.ensures.digits k [] l }),
     )

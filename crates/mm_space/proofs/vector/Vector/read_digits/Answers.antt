@@ -22,8 +22,8 @@ loop-i-preserved c =
           get_or-set_other c.loop-i.digits c.loop-i.i k c.in-Some.d 0 (λ e. absurd (omega arith)) ∙ c.loop-i.invariant.rest k (omega arith) l;
     }
 
-pub returns-clause-shown : goal.returns-clause-shown
-returns-clause-shown c =
+pub returns-clause-text : goal.returns-clause-text
+returns-clause-text c =
     let bytes = c.args.bytes.now in
     let digits = c.loop-i.digits in
     let few = c.requires.short in
