@@ -1,5 +1,5 @@
 -- What a run owes, from what was read and written.
-use Rattle.std.proofs.Common.{◌≡◌, ◌⊎◌, inl, inr, ℕ, ◌+◌, ◌≤◌, Bool, true, false, List, [], ◌++◌, length, Option, Some, None, refl, sym, ap, ◌∙◌, subst, arith}
+use Rattle.std.proofs.Common.{◌≡◌, ◌⊎◌, inl, inr, ℕ, ◌+◌, ◌≤◌, Bool, true, false, List, [], ◌++◌, length, take, Option, Some, None, refl, sym, ap, ◌∙◌, subst, arith}
 use Rattle.std.specs.Io.KnownBytes.{Appends, Consumes, IsAtEnd, Keeps}
 use Rattle.std.proofs.KnownBytes.{Appends-trans}
 use Rattle.std.proofs.lemmas.List.{append-nil, append_assoc, length-append, take_all}
@@ -18,7 +18,7 @@ use Rattle.mm_job.specs.declared.progress.JobFault.{JobFault}
 use Rattle.mm_job.specs.declared.progress.JobFault.TheVariants as fault
 use Rattle.mm_job.specs.declared.progress.Progress.TheVariants.{Ended}
 use Rattle.mm_job.proofs.GrowthLemmas.{output_grows, over_is_final}
-use Rattle.mm_cli.specs.Runs.{Answers, IsCut, IsEnd, IsEnough, Ran, WritesFront, cut}
+use Rattle.mm_cli.specs.Runs.{Answers, IsCut, IsEnd, IsEnough, Ran, Streams, WritesFront, cut, most_asked}
 use Rattle.mm_cli.specs.Going.{IsRead, SoFar}
 use Rattle.mm_cli.proofs.EndedLemmas.{end_ends, ended_ends, ended_is_enough}
 use Rattle.mm_job.proofs.JobLemmas.{ended_is_final}
@@ -106,6 +106,32 @@ front_finished limit (Some all) (Some rest) h k text took stop grew =
 pub front_all : (h k : Option (List ℕ)) (xs : List ℕ) → Appends h k xs → GrowsByFront h k xs
 front_all h k xs grew = (length xs, subst (λ z. Appends h k z) (sym (take_all (length xs) xs (omega arith))) grew)
 
+-- ---- what was written before the last read
+
+-- All that is settled of what was taken was written, and then a front of something.
+pub streams_then : (limit : ℕ) (a b h k m : Option (List ℕ)) (text piece : List ℕ) (rest : List ℕ) → Consumes a b (text ++ piece)
+    → length piece ≤ most_asked → Appends h k (settled_output text limit) → GrowsByFront k m rest → Streams limit a b h m
+streams_then limit a b h k m text piece rest took asked wrote grew = record {
+  before = text;
+  last = piece;
+  took = took;
+  asked = asked;
+  more = take grew.0 rest;
+  wrote = Appends-trans h k m (settled_output text limit) (take grew.0 rest) wrote grew.1;
+}
+
+-- All that is settled of what was taken was written.
+pub streams_all : (limit : ℕ) (a b h k : Option (List ℕ)) (text : List ℕ) → Consumes a b text
+    → Appends h k (settled_output text limit) → Streams limit a b h k
+streams_all limit a b h k text took wrote = record {
+  before = text;
+  last = [];
+  took = subst (λ t. Consumes a b t) (sym (append-nil text)) took;
+  asked = omega arith;
+  more = [];
+  wrote = subst (λ t. Appends h k t) (sym (append-nil (settled_output text limit))) wrote;
+}
+
 -- ---- what a run owes at each of its ends
 
 is_end : Status → Bool
@@ -140,21 +166,24 @@ ran_end limit a b h k s e answers = record {
   answers = λ _. answers;
   stops = λ r. absurd (end_not_cut s e (inl r));
   front = λ c. absurd (end_not_cut s e c);
+  streams = λ c. absurd (end_not_cut s e c);
 }
 
 -- The job stopped by a fault.
-pub ran_cut : (limit : ℕ) (a b h k : Option (List ℕ)) (e : JobFault) → WritesFront limit a h k → Ran limit a b h k (cut e)
-ran_cut limit a b h k fault.Write front = record {
+pub ran_cut : (limit : ℕ) (a b h k : Option (List ℕ)) (e : JobFault) → WritesFront limit a h k → Streams limit a b h k → Ran limit a b h k (cut e)
+ran_cut limit a b h k fault.Write front streams = record {
   ends = inr (inr (inl refl));
   answers = λ e. absurd (end_not_cut ends.WriteFault e (inr (inl refl)));
   stops = λ r. cc;
   front = λ c. front;
+  streams = λ c. streams;
 }
-ran_cut limit a b h k fault.NoMemory front = record {
+ran_cut limit a b h k fault.NoMemory front streams = record {
   ends = inr (inr (inr refl));
   answers = λ e. absurd (end_not_cut ends.NoMemory e (inr (inr refl)));
   stops = λ r. cc;
   front = λ c. front;
+  streams = λ c. streams;
 }
 
 -- what a failed read keeps
@@ -173,6 +202,7 @@ ran_read_fault limit a b c h k text far q =
       answers = λ e. absurd (end_not_cut ends.ReadFault e (inl refl));
       stops = λ _. (text, took, far.wrote);
       front = λ _. front_settled limit a c h k text took (front_all h k (settled_output text limit) far.wrote);
+      streams = λ _. streams_all limit a c h k text took far.wrote;
     }
 
 -- ---- one piece more
@@ -205,14 +235,15 @@ ran_ended limit a b c h k m text piece s far took l grew e =
 
 -- The job stopped at the piece.
 pub ran_stopped : (limit : ℕ) (a b c h k m : Option (List ℕ)) (text piece : List ℕ) (e : JobFault) → SoFar limit a b h k text → Consumes b c piece
-    → length text + length piece ≤ most_bytes + 1
+    → length text + length piece ≤ most_bytes + 1 → length piece ≤ most_asked
     → GrewByFront k m (settled_output text limit) (settled_output (with_piece text piece) limit) → Ran limit a c h m (cut e)
-ran_stopped limit a b c h k m text piece e far took l grew =
+ran_stopped limit a b c h k m text piece e far took l asked grew =
     let size : length (text ++ piece) ≤ most_bytes + 1 = omega (arith, length-append text piece, l) in
     ran_cut limit a c h m e
     (front_settled limit a c h m (text ++ piece) (took_more a b c text piece far.took took)
     (subst (λ t. GrowsByFront h m (settled_output t limit)) (whole_piece text piece size)
     (grown_front h k m (settled_output text limit) (settled_output (with_piece text piece) limit) far.wrote grew)))
+    (streams_then limit a c h k m text piece grew.rest (took_more a b c text piece far.took took) asked far.wrote grew.grew)
 
 -- ---- the end of the text
 
@@ -228,6 +259,7 @@ pub ran_unfinished : (limit : ℕ) (a b h k m : Option (List ℕ)) (text : List 
 ran_unfinished limit a b h k m text e far stop grew =
     ran_cut limit a b h m e
     (front_finished limit a b h m text far.took stop (grown_front h k m (settled_output text limit) (output text limit) far.wrote grew))
+    (streams_then limit a b h k m text [] grew.rest (subst (λ t. Consumes a b t) (sym (append-nil text)) far.took) (omega arith) far.wrote grew.grew)
 
 -- ---- the beginning
 

@@ -1,5 +1,5 @@
 -- What a run of a job owes to its source and its sink.
-use Rattle.std.specs.Prelude.{◌≡◌, ◌⊎◌, ℕ, ◌+◌, true, List, length, codes, IfSome}
+use Rattle.std.specs.Prelude.{◌≡◌, ◌≤◌, ◌⊎◌, ℕ, ◌+◌, true, List, ◌++◌, length, codes, IfSome}
 use Rattle.std.specs.declared.option.Option.{Option}
 use Rattle.std.specs.Io.KnownBytes.{Appends, Consumes, IsAtEnd}
 use Rattle.mm_base.specs.Causes.{GrowsByFront}
@@ -44,12 +44,26 @@ Stops limit left left_new held held_new =
 abbrev pub WritesFront : ℕ → Option (List ℕ) → Option (List ℕ) → Option (List ℕ) → Type 0
 WritesFront limit left held held_new = IfSome left (λ text. GrowsByFront held held_new (output text limit))
 
+-- A read asks for at most so many bytes.
+abbrev pub most_asked : ℕ
+most_asked = 8192
+
+-- Of the bytes that were taken, all but those of the last read were answered: what is settled of them was written, and maybe more.
+pub record Streams (limit : ℕ) (left left_new held held_new : Option (List ℕ)) : Type 0 where
+  pub before : List ℕ
+  pub last : List ℕ
+  pub took : Consumes left left_new (before ++ last)
+  pub asked : length last ≤ most_asked
+  pub more : List ℕ
+  pub wrote : Appends held held_new (settled_output before limit ++ more)
+
 -- What a run of a job owes: it comes to the end of the job or is cut short, and by its status the sink has grown.
 pub record Ran (limit : ℕ) (left left_new held held_new : Option (List ℕ)) (status : Status) : Type 0 where
   pub ends : IsEnd status ⊎ IsCut status
   pub answers : IsEnd status → Answers limit left left_new held held_new status
   pub stops : status ≡ ReadFault → Stops limit left left_new held held_new
   pub front : IsCut status → WritesFront limit left held held_new
+  pub streams : IsCut status → Streams limit left left_new held held_new
 
 -- The line that refuses words which ask for nothing.
 abbrev pub usage_line : List ℕ

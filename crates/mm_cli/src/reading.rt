@@ -1,13 +1,10 @@
 //! The loop that reads a job and writes its answers.
-ghost use Rattle.std.specs.Prelude.{◌≡◌, ◌≤◌, ◌<◌, ◌+◌, [], ℕ, List, length, true, Some, IfSome, IfNone};
-ghost use Rattle.std.specs.declared.option.Option.{Option};
-ghost use Rattle.std.specs.Io.KnownBytes.{IsAtEnd};
-ghost use Rattle.mm_base.specs.declared.status.Status.{Status};
-ghost use Rattle.mm_cli.specs.Going.{IsRead, SoFar};
+ghost use Rattle.std.specs.Prelude.{◌≡◌, ◌≤◌, ◌<◌, ◌+◌, [], ℕ, length, true, Some, IfSome, IfNone};
+ghost use Rattle.mm_cli.specs.Going.{CameTo, IsFar, IsRead, Start};
 ghost use Rattle.mm_lines.specs.Lines.{most_bytes};
 ghost use Rattle.mm_base.specs.Causes.{Rose};
 ghost use Rattle.mm_base.specs.declared.status.Status.TheVariants as ends;
-ghost use Rattle.mm_cli.specs.Runs.{Ran, cut};
+ghost use Rattle.mm_cli.specs.Runs.{Ran, cut, most_asked};
 
 use mm_base::{Sink, Source, Status, Steps};
 use mm_job::{Job, JobFault, Progress};
@@ -49,19 +46,14 @@ fn read_piece<S: Source, K: Sink, L: Ledger>(
     sink: &mut K,
     steps: &mut Steps<L>,
 ) -> ReadStep
+    ghost start: { Start }
     requires live { job.old.live ≡ true }
     requires some { 0 < length buffer.old }
+    requires asked { length buffer.old ≤ most_asked }
     requires room { length job.old.text + length buffer.old ≤ most_bytes + 1 }
-    ensures end { result ≡ ReadStep.End → (job.new ≡ job.old) × IsAtEnd (S.left source.new) ×
-        ((left held : Option (List ℕ)) → SoFar job.old.limit left (S.left source.old) held (K.held sink.old) job.old.text →
-        SoFar job.old.limit left (S.left source.new) held (K.held sink.new) job.old.text) }
-    ensures more { (n : ℕ) → result ≡ ReadStep.More n → (length job.new.text ≡ length job.old.text + n) × (0 < n) × (n ≤ length buffer.old)
-        × (job.new.limit ≡ job.old.limit) × (job.new.live ≡ true) ×
-        ((left held : Option (List ℕ)) → SoFar job.old.limit left (S.left source.old) held (K.held sink.old) job.old.text →
-        SoFar job.old.limit left (S.left source.new) held (K.held sink.new) job.new.text) }
-    ensures stop { (s : Status) → result ≡ ReadStep.Stop s →
-        ((left held : Option (List ℕ)) → SoFar job.old.limit left (S.left source.old) held (K.held sink.old) job.old.text →
-        Ran job.old.limit left (S.left source.new) held (K.held sink.new) s) }
+    requires far { IsFar start (S.left source.old) (K.held sink.old) job.old }
+    ensures came { CameTo start (S.left source.new) (K.held sink.new) job.old job.new result }
+    ensures within { (n : ℕ) → result ≡ ReadStep.More n → n ≤ length buffer.old }
     ensures read_later { S.faults source.old ≤ S.faults source.new }
     ensures read_fault { result ≡ ReadStep.Stop ends.ReadFault → Rose (S.faults source.old) (S.faults source.new) }
     ensures write_later { K.faults sink.old ≤ K.faults sink.new }
@@ -90,10 +82,12 @@ fn read_pieces<S: Source, K: Sink, L: Ledger>(
     sink: &mut K,
     steps: &mut Steps<L>,
 ) -> Option<Status>
+    ghost start: { Start }
     requires live { job.old.live ≡ true }
     requires new { job.old.text ≡ [] }
-    ensures stopped { IfSome result (λ s. Ran job.old.limit (S.left source.old) (S.left source.new) (K.held sink.old) (K.held sink.new) s) }
-    ensures all { IfNone result ((job.new.live ≡ true) × IsRead job.old.limit (S.left source.old) (S.left source.new) (K.held sink.old) (K.held sink.new) job.new) }
+    requires far { IsFar start (S.left source.old) (K.held sink.old) job.old }
+    ensures stopped { IfSome result (λ s. Ran job.old.limit start.left (S.left source.new) start.held (K.held sink.new) s) }
+    ensures all { IfNone result ((job.new.live ≡ true) × IsRead job.old.limit start.left (S.left source.new) start.held (K.held sink.new) job.new) }
     ensures read_fault { result ≡ Some ends.ReadFault → Rose (S.faults source.old) (S.faults source.new) }
     ensures write_later { K.faults sink.old ≤ K.faults sink.new }
     ensures write_fault { result ≡ Some ends.WriteFault → Rose (K.faults sink.old) (K.faults sink.new) }

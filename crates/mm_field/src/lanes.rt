@@ -3,7 +3,7 @@
 //! Each field has a loop of its own, without branches or tables, so that the compiler can work on many entries at once.
 #![tactic(auto)]
 
-ghost use Rattle.std.specs.Prelude.{◌≡◌, ◌≢◌, ◌<◌, ◌≤◌, ◌↔◌, ℕ, length, slice_index, IsSome, IfSome, IfNone, All};
+ghost use Rattle.std.specs.Prelude.{◌≡◌, ◌≢◌, ◌<◌, ◌≤◌, ◌*◌, ◌%◌, ◌↔◌, ℕ, length, slice_index, IsSome, IfSome, IfNone, All};
 ghost use Rattle.mm_field.specs.Digits.{order, plus, times};
 ghost use Rattle.mm_field.specs.Vectors.{AreDigits, vector_sum, multiple, zeros};
 
@@ -76,6 +76,7 @@ fn add_two(x: &[u8], y: &mut [u8])
 fn add_three(c: Elt, x: &[u8], y: &mut [u8])
     requires same_length { length x.now ≡ length y.old }
     requires factor { c < 3 }
+    requires nonzero { c ≢ 0 }
     requires digits_x { AreDigits Field.Three x.now }
     requires digits_y { AreDigits Field.Three y.old }
     ensures { y.new ≡ vector_sum Field.Three y.old (multiple Field.Three c x.now) }
@@ -89,6 +90,7 @@ fn add_three(c: Elt, x: &[u8], y: &mut [u8])
 fn add_four(c: Elt, x: &[u8], y: &mut [u8])
     requires same_length { length x.now ≡ length y.old }
     requires factor { c < 4 }
+    requires nonzero { c ≢ 0 }
     requires digits_x { AreDigits Field.Four x.now }
     requires digits_y { AreDigits Field.Four y.old }
     ensures { y.new ≡ vector_sum Field.Four y.old (multiple Field.Four c x.now) }
@@ -102,6 +104,7 @@ fn add_four(c: Elt, x: &[u8], y: &mut [u8])
 fn add_five(c: Elt, x: &[u8], y: &mut [u8])
     requires same_length { length x.now ≡ length y.old }
     requires factor { c < 5 }
+    requires nonzero { c ≢ 0 }
     requires digits_x { AreDigits Field.Five x.now }
     requires digits_y { AreDigits Field.Five y.old }
     ensures { y.new ≡ vector_sum Field.Five y.old (multiple Field.Five c x.now) }
@@ -121,38 +124,116 @@ fn sum_two(a: Elt, b: Elt) -> Elt
     b ^ a
 }
 
-// b + c*a over GF(3).
+// b + c*a over GF(3), where c is 1 or 2.
 #[inline(always)]
 fn sum_three(c: Elt, a: Elt, b: Elt) -> Elt
     requires factor { c < 3 }
+    requires nonzero { c ≢ 0 }
     requires left { a < 3 }
     requires right { b < 3 }
     ensures { result ≡ plus Field.Three b (times Field.Three c a) }
 {
-    (b + c * a) % 3
+    less_three(b + times_three(c, a))
 }
 
-// b + c*a over GF(4): a where c has bit 0, and 2*a where it has bit 1. In 2*a the high bit of a, times 2, becomes 3.
+// c*a, up to a multiple of 3.
+#[inline(always)]
+fn times_three(c: Elt, a: Elt) -> Elt
+    requires factor { c < 3 }
+    requires nonzero { c ≢ 0 }
+    requires digit { a < 3 }
+    ensures small { result ≤ 3 }
+    ensures product { result % 3 ≡ c * a % 3 }
+{
+    match c {
+        1 => a,
+        _ => 3 - a,
+    }
+}
+
+// s modulo 3.
+#[inline(always)]
+fn less_three(s: Elt) -> Elt
+    requires { s < 6 }
+    ensures { result ≡ s % 3 }
+{
+    if s >= 3 { s - 3 } else { s }
+}
+
+// b + c*a over GF(4), where c is not 0.
 #[inline(always)]
 fn sum_four(c: Elt, a: Elt, b: Elt) -> Elt
     requires factor { c < 4 }
+    requires nonzero { c ≢ 0 }
     requires left { a < 4 }
     requires right { b < 4 }
     ensures { result ≡ plus Field.Four b (times Field.Four c a) }
 {
-    let twice = ((a << 1) & 3) ^ (3 * (a >> 1));
-    b ^ (a & (3 * (c & 1))) ^ (twice & (3 * (c >> 1)))
+    b ^ times_four(c, a)
 }
 
-// b + c*a over GF(5).
+// c*a over GF(4), where c is not 0.
+#[inline(always)]
+fn times_four(c: Elt, a: Elt) -> Elt
+    requires factor { c < 4 }
+    requires nonzero { c ≢ 0 }
+    requires digit { a < 4 }
+    ensures small { result < 4 }
+    ensures product { result ≡ times Field.Four c a }
+{
+    let twice = twice_four(a);
+    if c == 2 {
+        return twice;
+    }
+    if c == 3 { a ^ twice } else { a }
+}
+
+// 2*a over GF(4): the high bit of a, times 2, becomes 3.
+#[inline(always)]
+fn twice_four(a: Elt) -> Elt
+    requires { a < 4 }
+    ensures small { result < 4 }
+    ensures product { result ≡ times Field.Four 2 a }
+{
+    if a >= 2 { (a + a) ^ 7 } else { a + a }
+}
+
+// b + c*a over GF(5), where c is not 0.
 #[inline(always)]
 fn sum_five(c: Elt, a: Elt, b: Elt) -> Elt
     requires factor { c < 5 }
+    requires nonzero { c ≢ 0 }
     requires left { a < 5 }
     requires right { b < 5 }
     ensures { result ≡ plus Field.Five b (times Field.Five c a) }
 {
-    (b + c * a) % 5
+    less_five(b + times_five(c, a))
+}
+
+// c*a, up to a multiple of 5.
+#[inline(always)]
+fn times_five(c: Elt, a: Elt) -> Elt
+    requires factor { c < 5 }
+    requires nonzero { c ≢ 0 }
+    requires digit { a < 5 }
+    ensures small { result ≤ 5 }
+    ensures product { result % 5 ≡ c * a % 5 }
+{
+    match c {
+        1 => a,
+        2 => less_five(a + a),
+        3 => 5 - less_five(a + a),
+        _ => 5 - a,
+    }
+}
+
+// s modulo 5.
+#[inline(always)]
+fn less_five(s: Elt) -> Elt
+    requires { s < 10 }
+    ensures { result ≡ s % 5 }
+{
+    if s >= 5 { s - 5 } else { s }
 }
 
 #[cfg(test)]

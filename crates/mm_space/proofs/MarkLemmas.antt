@@ -1,5 +1,5 @@
 -- Rows by their marks, and walks over marks from the lowest to the highest.
-use Rattle.std.proofs.Common.{ℕ, suc, ◌+◌, ◌-◌, ◌*◌, ◌/◌, ◌%◌, ◌^◌, ◌<◌, ◌≤◌, ◌≡◌, ◌≢◌, inl, inr, Bool, true, false, not, eqb, eqb-true, eq-eqb, cond, bit_and, set, List, [], ◌∷◌, ◌++◌, length, map, get_or, replicate, refl, sym, ap, ap₂, ◌∙◌, subst, arith, length-set, length-append, w64}
+use Rattle.std.proofs.Common.{ℕ, suc, ◌+◌, ◌-◌, ◌*◌, ◌%◌, ◌^◌, ◌<◌, ◌≤◌, ◌≡◌, ◌≢◌, inl, inr, Bool, true, false, not, eqb, eqb-true, eq-eqb, cond, bit_and, set, List, [], ◌++◌, length, map, get_or, replicate, refl, sym, ap, ap₂, ◌∙◌, subst, arith, length-set, length-append, w64}
 use Rattle.std.specs.Int.{bit_at, bit_not, trailing_zeros}
 use Rattle.std.specs.List.{range_with_len}
 use lib.Count.{count_leading_zeros}

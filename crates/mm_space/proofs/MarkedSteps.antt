@@ -1,5 +1,5 @@
 -- Elimination over marked rows: the steps of its loops.
-use Rattle.std.proofs.Common.{ℕ, zero, suc, ◌+◌, ◌-◌, ◌^◌, ◌<◌, ◌≤◌, ◌≡◌, ◌≢◌, ◌⊎◌, inl, inr, min, bit_and, set, List, [], ◌∷◌, length, map, get_or, refl, sym, ap, ◌∙◌, subst, arith}
+use Rattle.std.proofs.Common.{ℕ, zero, suc, ◌+◌, ◌-◌, ◌^◌, ◌<◌, ◌≤◌, ◌≡◌, ◌⊎◌, inl, inr, bit_and, set, List, [], length, map, get_or, refl, sym, ap, ◌∙◌, subst, arith}
 use Rattle.std.specs.Int.{bit_at}
 use Rattle.std.proofs.lemmas.Bool.{cases_lt, cases_eq}
 use Rattle.std.proofs.lemmas.Nat.Bits.{bit_at_and, bit_at-lt, bit_at_above, bit_at_mask_inside, bit_at_mask_below}
@@ -8,7 +8,7 @@ use Rattle.mm_field.specs.declared.Field.{Field}
 use Rattle.mm_field.specs.Digits.{negative}
 use Rattle.mm_field.specs.Vectors.{zeros, vector_sum, multiple, IsVector}
 use Rattle.mm_field.proofs.VectorLemmas.{add_no_multiple}
-use Rattle.mm_linear.specs.Echelons.{entry, IsEchelon, EndsAt, ZeroFrom}
+use Rattle.mm_linear.specs.Echelons.{IsEchelon}
 use Rattle.mm_linear.specs.Eliminate.{residue, cleared}
 use Rattle.mm_linear.proofs.EchelonLemmas.{row_at, entry_of_zero_row, negative-zero}
 use Rattle.mm_space.specs.MarkedRows.{IsSupport, marked_rows}

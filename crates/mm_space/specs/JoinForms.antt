@@ -1,5 +1,5 @@
 -- An operator's matrices in the form in which one elimination joins, and what the join answers.
-use Rattle.std.specs.Prelude.{ℕ, ◌+◌, ◌-◌, ◌≡◌, ◌≤◌, List, ◌++◌, map, take, drop, length, replicate, Option, Some, None}
+use Rattle.std.specs.Prelude.{ℕ, ◌+◌, ◌-◌, ◌≤◌, List, ◌++◌, map, take, drop, length, replicate, Option, Some, None}
 use Rattle.mm_field.specs.declared.Field.{Field}
 use Rattle.mm_field.specs.Vectors.{zeros, combination, times_matrix, AreVectors, AreIndependent, InSpan, SameRowSpace}
 use Rattle.mm_linear.specs.Decide.{echelon_of}

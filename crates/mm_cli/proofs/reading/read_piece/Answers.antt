@@ -3,58 +3,58 @@ use Rattle.std.proofs.lemmas.Grind.{common_steps}
 use Rattle.mm_lines.specs.Lines.{most_bytes}
 use Rattle.mm_base.specs.declared.status.Status.TheVariants as ends
 use Rattle.mm_job.specs.Jobs.{with_piece}
-use Rattle.mm_cli.specs.Runs.{Ran}
+use Rattle.mm_cli.specs.Runs.{Ran, most_asked}
 use Rattle.mm_cli.specs.Going.{SoFar}
 use Rattle.mm_cli.proofs.StepLemmas.{stop_is, more_is, more_ok, more_goes_on}
 use Rattle.mm_cli.proofs.RunLemmas.{not_a_fault, ran_read_fault, further, ran_ended, ran_stopped, whole_piece}
 use Rattle.mm_cli.proofs.reading.read_piece.Goals as goal
 
-pub returns-in_default-clause-stop : goal.returns-in_default-clause-stop
-returns-in_default-clause-stop g c = λ s e left held far.
+pub returns-in_default-clause-came : goal.returns-in_default-clause-came
+returns-in_default-clause-came g c =
     let j = c.args.job.now in
-    subst (λ t. Ran j.limit left (g.S.Source.left c.read.new.self) held (g.K.Sink.held c.args.sink.now) t) (stop_is ends.ReadFault s e)
-    (ran_read_fault j.limit left (g.S.Source.left c.args.source.now) (g.S.Source.left c.read.new.self) held (g.K.Sink.held c.args.sink.now) j.text far c.in_default.ensures.bytes)
+    ran_read_fault j.limit g.start.left (g.S.Source.left c.args.source.now) (g.S.Source.left c.read.new.self) g.start.held (g.K.Sink.held c.args.sink.now) j.text c.requires.far c.in_default.ensures.bytes
 
-pub returns-in-Ok-Ended-clause-stop : goal.returns-in-Ok-Ended-clause-stop
-returns-in-Ok-Ended-clause-stop g c = λ s e left held far.
+pub returns-in-Ok-Ended-clause-came : goal.returns-in-Ok-Ended-clause-came
+returns-in-Ok-Ended-clause-came g c =
     let j = c.args.job.now in
     let piece = take c.in-Ok.count c.read.new.buf in
     let room : length j.text + length piece ≤ most_bytes + 1 = grind (arith, common_steps) in
-    subst (λ t. Ran j.limit left (g.S.Source.left c.read.new.self) held (g.K.Sink.held c.feed.new.out) t) (stop_is c.in-Ok-Ended.status s e)
-    (ran_ended j.limit left (g.S.Source.left c.args.source.now) (g.S.Source.left c.read.new.self) held (g.K.Sink.held c.args.sink.now) (g.K.Sink.held c.feed.new.out)
-    j.text piece c.in-Ok-Ended.status far c.in-Ok.ensures.bytes.0 room c.in-Ok-Ended.ensures.writes.wrote (sym c.in-Ok-Ended.field-0-is ∙ c.in-Ok-Ended.ensures.progress))
+    ran_ended j.limit g.start.left (g.S.Source.left c.args.source.now) (g.S.Source.left c.read.new.self) g.start.held (g.K.Sink.held c.args.sink.now) (g.K.Sink.held c.feed.new.out)
+    j.text piece c.in-Ok-Ended.status c.requires.far c.in-Ok.ensures.bytes.0 room c.in-Ok-Ended.ensures.writes.wrote (sym c.in-Ok-Ended.field-0-is ∙ c.in-Ok-Ended.ensures.progress)
 
-pub returns-in-Err-clause-stop : goal.returns-in-Err-clause-stop
-returns-in-Err-clause-stop g c = λ s e left held far.
+pub returns-in-Err-clause-came : goal.returns-in-Err-clause-came
+returns-in-Err-clause-came g c =
     let j = c.args.job.now in
     let piece = take c.in-Ok.count c.read.new.buf in
     let room : length j.text + length piece ≤ most_bytes + 1 = grind (arith, common_steps) in
-    subst (λ t. Ran j.limit left (g.S.Source.left c.read.new.self) held (g.K.Sink.held c.feed.new.out) t) (sym c.cut.ensures ∙ stop_is c.cut.result s e)
-    (ran_stopped j.limit left (g.S.Source.left c.args.source.now) (g.S.Source.left c.read.new.self) held (g.K.Sink.held c.args.sink.now) (g.K.Sink.held c.feed.new.out)
-    j.text piece c.in-Err.fault far c.in-Ok.ensures.bytes.0 room c.in-Err.ensures.writes.front)
+    let asked : length piece ≤ most_asked = grind (arith, common_steps) in
+    subst (λ t. Ran j.limit g.start.left (g.S.Source.left c.read.new.self) g.start.held (g.K.Sink.held c.feed.new.out) t) (sym c.cut.ensures)
+    (ran_stopped j.limit g.start.left (g.S.Source.left c.args.source.now) (g.S.Source.left c.read.new.self) g.start.held (g.K.Sink.held c.args.sink.now) (g.K.Sink.held c.feed.new.out)
+    j.text piece c.in-Err.fault c.requires.far c.in-Ok.ensures.bytes.0 room asked c.in-Err.ensures.writes.front)
 
-pub returns-in-Ok-More-clause-more : goal.returns-in-Ok-More-clause-more
-returns-in-Ok-More-clause-more g c = λ n e.
+pub returns-in-Ok-More-clause-came : goal.returns-in-Ok-More-clause-came
+returns-in-Ok-More-clause-came g c =
     let j = c.args.job.now in
     let piece = take c.in-Ok.count c.read.new.buf in
-    let m : c.in-Ok.count ≡ n = more_is c.in-Ok.count n e in
     let some : 0 < c.in-Ok.count = grind (arith, common_steps) in
-    let within : c.in-Ok.count ≤ length c.args.buffer.now = grind (arith, common_steps) in
     let count : length piece ≡ c.in-Ok.count = grind (arith, common_steps) in
     let room : length j.text + length piece ≤ most_bytes + 1 = grind (arith, common_steps) in
     let whole : length (j.text ++ piece) ≤ most_bytes + 1 = omega (arith, length-append j.text piece, room) in
     let text : c.feed.new.self.text ≡ j.text ++ piece =
-    c.in-Ok-More.ensures.text (ap (λ p. more_ok p) c.in-Ok-More.field-0-is) ∙ whole_piece j.text piece whole in (
-      ap length text ∙ length-append j.text piece ∙ ap (λ k. length j.text + k) (count ∙ m),
-      subst (λ k. 0 < k) m some,
-      subst (λ k. k ≤ length c.args.buffer.now) m within,
-      c.in-Ok-More.ensures.limit,
-      c.in-Ok-More.ensures.live ∙ ap more_goes_on c.in-Ok-More.field-0-is,
-      λ left held far.
-          subst (λ t. SoFar j.limit left (g.S.Source.left c.read.new.self) held (g.K.Sink.held c.feed.new.out) t) (sym text)
-          (further j.limit left (g.S.Source.left c.args.source.now) (g.S.Source.left c.read.new.self) held (g.K.Sink.held c.args.sink.now) (g.K.Sink.held c.feed.new.out)
-          j.text piece far c.in-Ok.ensures.bytes.0 room c.in-Ok-More.ensures.writes.wrote),
-    )
+    c.in-Ok-More.ensures.text (ap (λ p. more_ok p) c.in-Ok-More.field-0-is) ∙ whole_piece j.text piece whole in
+    let far = further j.limit g.start.left (g.S.Source.left c.args.source.now) (g.S.Source.left c.read.new.self) g.start.held (g.K.Sink.held c.args.sink.now) (g.K.Sink.held c.feed.new.out)
+      j.text piece c.requires.far c.in-Ok.ensures.bytes.0 room c.in-Ok-More.ensures.writes.wrote in
+    record {
+      count = ap length text ∙ length-append j.text piece ∙ ap (λ k. length j.text + k) count;
+      some = some;
+      limit = c.in-Ok-More.ensures.limit;
+      live = c.in-Ok-More.ensures.live ∙ ap more_goes_on c.in-Ok-More.field-0-is;
+      far = subst (λ n. SoFar n g.start.left (g.S.Source.left c.read.new.self) g.start.held (g.K.Sink.held c.feed.new.out) c.feed.new.self.text) (sym c.in-Ok-More.ensures.limit)
+          (subst (λ t. SoFar j.limit g.start.left (g.S.Source.left c.read.new.self) g.start.held (g.K.Sink.held c.feed.new.out) t) (sym text) far);
+    }
+
+pub returns-in-Ok-More-clause-within : goal.returns-in-Ok-More-clause-within
+returns-in-Ok-More-clause-within g c = λ n e. subst (λ k. k ≤ length c.args.buffer.now) (more_is c.in-Ok.count n e) (grind (arith, common_steps))
 
 pub returns-in-Ok-Ended-clause-read_fault : goal.returns-in-Ok-Ended-clause-read_fault
 returns-in-Ok-Ended-clause-read_fault g c = λ e. absurd (not_a_fault c.args.job.now.limit (with_piece c.args.job.now.text (take c.in-Ok.count c.read.new.buf)) c.in-Ok-Ended.status (sym c.in-Ok-Ended.ensures.progress ∙ c.in-Ok-Ended.field-0-is) (inl (stop_is c.in-Ok-Ended.status ends.ReadFault e)))

@@ -1,11 +1,14 @@
 use Rattle.std.proofs.Common.{◌≡◌, ◌≤◌, ◌+◌, ◌-◌, true, length}
 use Rattle.mm_lines.specs.Lines.{most_bytes}
-use Rattle.mm_cli.specs.Going.{SoFar}
+use Rattle.mm_cli.specs.Going.{IsFar}
 use Rattle.mm_cli.proofs.reading.read_pieces.Given as goal
+
+abbrev pub ghost-read_piece : goal.ghost-read_piece
+ghost-read_piece g a = g.start
 
 abbrev pub invariant-pieces : goal.invariant-pieces
 invariant-pieces g l = record {
-  far : SoFar l.initial.job.limit (g.S.Source.left l.initial.source) (g.S.Source.left l.source) (g.K.Sink.held l.initial.sink) (g.K.Sink.held l.sink) l.job.text;
+  far : IsFar g.start (g.S.Source.left l.source) (g.K.Sink.held l.sink) l.job;
   count : length l.job.text ≡ l.taken;
   limit : l.job.limit ≡ l.initial.job.limit;
   live : l.job.live ≡ true;

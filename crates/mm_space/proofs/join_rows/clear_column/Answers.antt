@@ -2,7 +2,7 @@ use Rattle.std.proofs.Common.{ℕ, ◌*◌, ◌%◌, ◌^◌, List, sym, subst, 
 use Rattle.std.specs.Int.{trailing_zeros}
 use Rattle.std.proofs.lemmas.Nat.Bits.{ones_shl}
 use Rattle.mm_space.specs.MarkedRows.{marked_rows}
-use Rattle.mm_space.proofs.MarkLemmas.{IsLowest, lowest_mark, without, without_is_less}
+use Rattle.mm_space.proofs.MarkLemmas.{lowest_mark, without, without_is_less}
 use Rattle.mm_space.proofs.MarkedSteps.{IsClearingMarked, clearing_start, clearing_place, clearing_row, clearing_next, clearing_next_zero, clearing_marked_end}
 use Rattle.mm_space.proofs.join_rows.clear_column.Goals.{then-d-ne0, else-d-ne0}
 use Rattle.mm_space.proofs.join_rows.clear_column.Goals as goal

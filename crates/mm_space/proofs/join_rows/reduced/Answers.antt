@@ -1,6 +1,5 @@
-use Rattle.std.proofs.Common.{arith, w64}
-use Rattle.std.specs.Int.{trailing_zeros}
-use Rattle.mm_space.proofs.MarkLemmas.{IsLowest, lowest_mark, without_is_less}
+use Rattle.std.proofs.Common.{arith}
+use Rattle.mm_space.proofs.MarkLemmas.{lowest_mark, without_is_less}
 use Rattle.mm_space.proofs.MarkedSteps.{reducing_start, reducing_place, reducing_row, reducing_step, reducing_end}
 use Rattle.mm_space.proofs.join_rows.reduced.Goals as goal
 

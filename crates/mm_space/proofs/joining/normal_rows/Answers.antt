@@ -1,11 +1,11 @@
-use Rattle.std.proofs.Common.{ℕ, List, ◌≡◌, ◌+◌, ◌++◌, [], get_or, map, length, take, subst, sym, ap, ◌∙◌, arith, length-set}
+use Rattle.std.proofs.Common.{ℕ, ◌≡◌, ◌+◌, ◌++◌, [], get_or, map, length, take, subst, sym, ap, ◌∙◌, arith, length-set}
 use Rattle.mm_field.specs.Vectors.{IsVector, zeros}
 use Rattle.mm_linear.specs.Eliminate.{residue}
 use Rattle.mm_linear.specs.Echelons.{EndsAt}
 use Rattle.mm_space.specs.JoinForms.{normal, moved}
 use Rattle.mm_space.proofs.FormLemmas.{IsVector-moved}
 use Rattle.mm_space.proofs.JoinSteps.{stored_moved, form_step, form_end, moved_ends}
-use Rattle.std.proofs.lemmas.List.{get_or-set_other, get_or-replicate, take_all, length-map}
+use Rattle.std.proofs.lemmas.List.{get_or-set_other, take_all, length-map}
 use Rattle.mm_space.proofs.joining.normal_rows.Goals as goal
 
 row_is : (c : goal.After-row-1) → c.moved_row-row.result ≡ moved c.args.r (get_or c.args.g.now c.loop-i.i [])

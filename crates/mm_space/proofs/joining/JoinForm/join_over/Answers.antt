@@ -1,6 +1,6 @@
-use Rattle.std.proofs.Common.{ℕ, List, ◌≡◌, length, map, reverse, subst, sym, ap, ◌∙◌}
+use Rattle.std.proofs.Common.{ℕ, length, map, reverse, subst, sym, ap, ◌∙◌}
 use Rattle.std.specs.Prelude.{Some, None}
-use Rattle.mm_space.specs.JoinForms.{FormValue, ImagesMeetTrivially, Joins, third_rows}
+use Rattle.mm_space.specs.JoinForms.{FormValue, Joins, third_rows}
 use Rattle.mm_space.specs.KeyValue.{IsKeyOf}
 use Rattle.mm_space.specs.SpaceValue.{corner}
 use Rattle.mm_space.proofs.JoinSteps.{beside_of, form_over, held_of_form, form_rows_are, second_independent, meet_of_images, key_of_join, value_over}
