@@ -5,7 +5,7 @@ use Rattle.std.specs.List.{list_all}
 use Rattle.std.specs.Str.{bytes_eq}
 use Rattle.mm_field.specs.declared.Field.{Field}
 use Rattle.mm_lines.specs.Numbers.{number_of}
-use Rattle.mm_job_text.specs.DigitTexts.{vectors_of}
+use Rattle.mm_space.specs.DigitTexts.{vectors_of}
 use Rattle.mm_job_text.specs.HeaderLines.{field_of}
 use Rattle.mm_cli.specs.declared.words.Command.{Command}
 use Rattle.mm_cli.specs.declared.words.Command.TheVariants.{Run, NotBuilt}

@@ -5,7 +5,7 @@ ghost use Rattle.mm_lines.specs.Numbers.{number_of};
 ghost use Rattle.mm_cli.specs.Words.{IsWithinLimit, alone, command_of, is_matrix_of_order, is_small_matrix, limited, most_limit, not_built, number_within, with_joined, with_three, with_two};
 
 use mm_field::Field;
-use mm_job_text::{is_text, read_vectors};
+use mm_job_text::is_text;
 use mm_lines::read_i64;
 use mm_space::Gen;
 
@@ -135,7 +135,7 @@ fn is_matrix_of_order(q: Option<u64>, rows: &[u8]) -> bool
     let Some(f) = Field::of(q as u8) else {
         return false;
     };
-    match read_vectors(f, rows) {
+    match Gen::read(f, rows) {
         Some(rows) => is_small_matrix(&rows),
         None => false,
     }

@@ -19,17 +19,16 @@ use Rattle.mm_tree.specs.declared.builder.BuildFault.TheVariants as fault
 use Rattle.mm_tree.proofs.BuilderLemmas.{free_parts}
 use Rattle.mm_job_text.specs.Arguments.{args, three_of, two_of}
 use Rattle.mm_job_text.specs.Becoming.{Becomes}
-use Rattle.mm_job_text.specs.Checks.{◌>>=◌, ◌>>◌, require, found, unless, within}
-use Rattle.mm_job_text.specs.DigitTexts.{vector_of}
+use Rattle.mm_job_text.specs.Checks.{◌>>=◌, ◌>>◌, require, found, unless}
+use Rattle.mm_space.specs.DigitTexts.{vector_of}
 use Rattle.mm_job_text.specs.TreeLines.{elem_line, elem_fields, join_line, join_fields, most_boundary, tree_refusal, void_line, void_fields, with_leaf}
 use Rattle.mm_job_text.specs.declared.refusal.Limit.TheVariants as limit
 use Rattle.mm_job_text.specs.declared.refusal.Refusal.{Refusal}
 use Rattle.mm_job_text.specs.declared.refusal.Refusal.TheVariants as refusal
-use Rattle.mm_job_text.specs.declared.refusal.Stop.{Stop}
 use Rattle.mm_job_text.specs.declared.refusal.Stop.TheVariants as stop
 use Rattle.mm_job_text.specs.declared.tree_lines.ElementLine.{ElementLine}
 use Rattle.mm_job_text.specs.declared.tree_lines.VoidLine.{VoidLine}
-use Rattle.mm_job_text.proofs.DigitLemmas.{text_of_vector}
+use Rattle.mm_space.proofs.DigitTextLemmas.{text_of_vector}
 use Rattle.mm_header.proofs.KeptLemmas.{same_value}
 
 -- ---- what is answered to a leaf

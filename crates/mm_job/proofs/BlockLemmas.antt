@@ -14,7 +14,7 @@ use Rattle.mm_lines.specs.declared.line.LineText.TheVariants.{Whole, TooLong}
 use Rattle.mm_job_text.specs.Arguments.{begins, first_is, too_long}
 use Rattle.mm_job_text.specs.Readers.{Read}
 use Rattle.mm_job_text.specs.declared.refusal.Refusal.{Refusal}
-use Rattle.mm_job.specs.Blocks.{block_from, written_rest, lines_from_block}
+use Rattle.mm_job.specs.State.Blocks.{block_from, written_rest, lines_from_block}
 use Rattle.mm_job.specs.Edits.{Denied, block, check_end, check_names, check_rows, compared_or, single}
 use Rattle.mm_job.specs.Header.{Session}
 use Rattle.mm_job.specs.Items.{Rest, block_of, closes, items, opens, rest_of_block, after_line, Single}

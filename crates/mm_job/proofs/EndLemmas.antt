@@ -3,8 +3,8 @@ use Rattle.std.specs.Prelude.{◌≡◌, refl, ℕ, Bool, [], Option, Some, None
 use Rattle.std.proofs.Common.{ap, ◌∙◌}
 use Rattle.mm_tree.specs.TreeValue.{TreeValue}
 use Rattle.mm_job_text.specs.Readers.{Reading, Short, and_then, now}
-use Rattle.mm_job.specs.Blocks.{lines_from_block}
-use Rattle.mm_job.specs.JobStates.{end_by}
+use Rattle.mm_job.specs.State.Blocks.{lines_from_block}
+use Rattle.mm_job.specs.State.JobStates.{end_by}
 use Rattle.mm_header.proofs.HeaderLemmas.{state_short}
 use Rattle.mm_header.specs.Header.{Parts}
 use Rattle.mm_header.specs.Rules.{job_rules}
@@ -13,8 +13,8 @@ use Rattle.mm_header.specs.declared.state.HeaderState.{HeaderState}
 use Rattle.mm_job.specs.Header.{Session, query_part, started}
 use Rattle.mm_job.specs.Items.{items, rest_of_block}
 use Rattle.mm_job.specs.Output.{Ending, More, at_rest, cut_short, lines_after_header, lines_of_items}
-use Rattle.mm_job.specs.Sessions.{session_of}
-use Rattle.mm_job.specs.Stages.{lines_from_stage}
+use Rattle.mm_job.specs.State.Sessions.{session_of}
+use Rattle.mm_job.specs.State.Stages.{lines_from_stage}
 use Rattle.mm_job.specs.declared.block.Block.{Block}
 use Rattle.mm_job.specs.declared.stage.Stage.{Stage}
 use Rattle.mm_job.specs.declared.stage.Stage.TheVariants as stage

@@ -14,11 +14,11 @@ use Rattle.mm_base.specs.declared.status.Status.{Status}
 use Rattle.mm_lines.specs.declared.line.Line.{Line}
 use Rattle.mm_lines.specs.Lines.{lines_of}
 use Rattle.mm_lines.specs.Streams.{Stream, next_of, after_line}
-use Rattle.mm_job.specs.JobStates.{after_output_line, come_to}
-use Rattle.mm_job.specs.Feeding.{Fed, IsWithin, left}
+use Rattle.mm_job.specs.State.JobStates.{after_output_line, come_to}
+use Rattle.mm_job.specs.State.Feeding.{Fed, IsWithin, left}
 use Rattle.mm_job.specs.Jobs.{HasJobCause}
 use Rattle.mm_job.specs.Output.{Ending, printed, printed_all}
-use Rattle.mm_job.specs.Stages.{lines_from_stage}
+use Rattle.mm_job.specs.State.Stages.{lines_from_stage}
 use Rattle.mm_job.specs.declared.state.JobState.{JobState}
 use Rattle.mm_job.specs.declared.progress.JobFault.{JobFault}
 use Rattle.mm_job.specs.declared.output_line.OutputLine.{OutputLine}

@@ -12,16 +12,16 @@ use Rattle.mm_lines.specs.Lines.{is_over, lines_of, most_bytes, settled}
 use Rattle.mm_lines.specs.Streams.{Stream}
 use Rattle.mm_lines.specs.declared.line.Line.{Line}
 use Rattle.mm_job_text.specs.Readers.{Reading, Read, Refused, Short}
-use Rattle.mm_job.specs.JobStates.{come_to, is_refused}
+use Rattle.mm_job.specs.State.JobStates.{come_to, is_refused}
 use Rattle.mm_job.specs.Header.{Session, header, header_lines}
 use Rattle.mm_job.specs.Items.{Items, NoMore, Unended, Single, Block, items}
 use Rattle.mm_job.specs.Jobs.{JobValue, begins_refused, progress, with_piece}
-use Rattle.mm_job.specs.Kept.{IsJob, IsLive, state_of}
+use Rattle.mm_job.specs.State.Kept.{IsJob, IsLive, state_of}
 use Rattle.mm_job.specs.declared.job.Job.TheInside.{Inside}
 use Rattle.mm_job.specs.Output.{Ending, More, Over, after_reply, end_of, is_refusal, printed_all, reply_line, settled_lines, settled_output, status_of, written_lines, lines_after_header, lines_of_items}
 use Rattle.mm_job.specs.Edits.{block, single}
-use Rattle.mm_job.specs.Stages.{lines_from_stage}
-use Rattle.mm_job.specs.Standing.{IsRead, Stands, written_at}
+use Rattle.mm_job.specs.State.Stages.{lines_from_stage}
+use Rattle.mm_job.specs.State.Standing.{IsRead, Stands, written_at}
 use Rattle.mm_job.specs.declared.state.JobState.{JobState}
 use Rattle.mm_header.specs.declared.state.HeaderState.TheVariants as heads
 use Rattle.mm_job.specs.declared.progress.Progress.{Progress}

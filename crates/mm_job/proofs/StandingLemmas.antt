@@ -17,12 +17,12 @@ use Rattle.mm_lines.specs.Lines.{is_over, lines, lines_of, most_bytes, settled}
 use Rattle.mm_lines.specs.Streams.{Stream}
 use Rattle.mm_lines.specs.declared.line.Line.{Line}
 use Rattle.mm_lines.proofs.FrontLemmas.{lines_go_on}
-use Rattle.mm_job.specs.JobStates.{come_to, is_refused, status_at}
-use Rattle.mm_job.specs.Feeding.{Fed, IsWithin, left}
+use Rattle.mm_job.specs.State.JobStates.{come_to, is_refused, status_at}
+use Rattle.mm_job.specs.State.Feeding.{Fed, IsWithin, left}
 use Rattle.mm_job.specs.Jobs.{Grew, GrewByFront, begins_refused}
 use Rattle.mm_job.specs.Output.{Ending, More, Ended, Over, end_of, is_refusal, output, output_lines, printed, printed_all, settled_lines, settled_output, status_of, written_lines}
-use Rattle.mm_job.specs.Stages.{IsKeptAt, lines_from_stage}
-use Rattle.mm_job.specs.Standing.{IsRead, Stands, written_at}
+use Rattle.mm_job.specs.State.Stages.{IsKeptAt, lines_from_stage}
+use Rattle.mm_job.specs.State.Standing.{IsRead, Stands, written_at}
 use Rattle.mm_job.specs.declared.state.JobState.{JobState}
 use Rattle.mm_job.specs.declared.output_line.OutputLine.{OutputLine}
 use Rattle.mm_job.proofs.EndLemmas.{quiet}

@@ -6,12 +6,6 @@ pub mod Edits
 pub mod Output
 pub mod Laws
 pub mod PlainTruth
-pub mod Sessions
-pub mod Blocks
-pub mod Stages
-pub mod JobStates
-pub mod Feeding
-pub mod Standing
-pub mod Kept
 pub mod Jobs
 pub mod Calls
+pub mod State

@@ -1,7 +1,7 @@
 //! A block of a job, line by line.
 ghost use Rattle.std.specs.Prelude.{◌≡◌, ◌∷◌, [], List, IfOk, true, false, codes, length};
 ghost use Rattle.mm_lines.specs.declared.line.Line.{Line};
-ghost use Rattle.mm_job.specs.Blocks.{IsBegun, block_from, reply_of};
+ghost use Rattle.mm_job.specs.State.Blocks.{IsBegun, block_from, reply_of};
 ghost use Rattle.mm_job.specs.Edits.{block, check_names, check_rows};
 ghost use Rattle.std.specs.List.{IsDistinct};
 ghost use Rattle.std.specs.Str.{bytes_eq};

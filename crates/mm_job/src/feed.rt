@@ -4,13 +4,13 @@ ghost use Rattle.mm_lines.specs.Lines.{most_bytes, settled};
 ghost use Rattle.mm_lines.specs.declared.line.Line.{Line as LineOf};
 ghost use Rattle.std.specs.Io.KnownBytes.{Appends};
 ghost use Rattle.mm_base.specs.Causes.{GrowsByFront};
-ghost use Rattle.mm_job.specs.Blocks.{written};
-ghost use Rattle.mm_job.specs.JobStates.{come_to, end_by, status_at};
-ghost use Rattle.mm_job.specs.Feeding.{Fed, IsWithin, left};
+ghost use Rattle.mm_job.specs.State.Blocks.{written};
+ghost use Rattle.mm_job.specs.State.JobStates.{come_to, end_by, status_at};
+ghost use Rattle.mm_job.specs.State.Feeding.{Fed, IsWithin, left};
 ghost use Rattle.mm_job.specs.Jobs.{Grew, GrewByFront, HasJobCause};
 ghost use Rattle.mm_job.specs.Output.{Ending, More, Over, end_of, output, printed, printed_all, status_of, written_lines};
-ghost use Rattle.mm_job.specs.Standing.{IsRead, Stands, written_at};
-ghost use Rattle.mm_job.specs.Stages.{IsKeptAt, lines_from_stage};
+ghost use Rattle.mm_job.specs.State.Standing.{IsRead, Stands, written_at};
+ghost use Rattle.mm_job.specs.State.Stages.{IsKeptAt, lines_from_stage};
 
 use crate::output_line::OutputLine;
 use crate::progress::JobFault;

@@ -3,13 +3,13 @@ ghost use Rattle.std.specs.Prelude.{◌≡◌, ◌∷◌, ◌++◌, [], List, If
 ghost use Rattle.std.specs.List.{IsDistinct};
 ghost use Rattle.std.specs.Str.{bytes_eq};
 ghost use Rattle.mm_lines.specs.declared.line.Line.{Line};
-ghost use Rattle.mm_job.specs.Blocks.{AreBegun, IsBegun, block_from, lines_from_block, written};
+ghost use Rattle.mm_job.specs.State.Blocks.{AreBegun, IsBegun, block_from, lines_from_block, written};
 ghost use Rattle.mm_job.specs.Items.{closes};
 ghost use Rattle.mm_header.specs.State.HeaderStates.{IsMatrix};
 ghost use Rattle.mm_present.specs.Comparing.{compared};
 ghost use Rattle.mm_job.specs.Output.{Ending, reply_line};
 ghost use Rattle.mm_job.specs.Edits.{is_same};
-ghost use Rattle.mm_job.specs.Sessions.{session_of};
+ghost use Rattle.mm_job.specs.State.Sessions.{session_of};
 ghost use Rattle.mm_job.specs.declared.output_line.OutputLine.TheVariants.{Says};
 
 use crate::block::{Block, closes, opens};

@@ -3,13 +3,10 @@ use crate::feed::{take_last, take_piece, take_text_end};
 use crate::progress::{JobFault, Progress};
 use crate::state::{JobState, is_refused, nothing_read};
 use mm_base::{Sink, Status, Steps};
-use mm_lines::Framer;
+use mm_lines::{Framer, MOST_BYTES};
 use std::alloc::Global;
 use std::marker::Model;
 use std::sync::ledger::Ledger;
-
-/// The most bytes of a text that are used.
-const MAX_BYTES: usize = 67_108_864;
 
 /// A job whose text comes in pieces, and which writes what each piece settles. Contracts see it as the text so far, the limit on
 /// sizes, and whether it goes on.
@@ -28,7 +25,7 @@ impl Model for Job {
 
     ghost Value = { JobValue };
 
-    ghost use Rattle.mm_job.specs.Kept.{IsJob, state_of};
+    ghost use Rattle.mm_job.specs.State.Kept.{IsJob, state_of};
 
     ghost view = { state_of };
 
@@ -41,7 +38,7 @@ impl Job {
     ghost use Rattle.mm_job.specs.Calls.{Writes};
     ghost use Rattle.mm_job.specs.Jobs.{Grew, GrewByFront, HasJobCause, goes_on, progress, with_piece};
     ghost use Rattle.mm_job.specs.Output.{Over, end_of, output, settled_output, status_of, written_lines};
-    ghost use Rattle.mm_job.specs.Standing.{written_at};
+    ghost use Rattle.mm_job.specs.State.Standing.{written_at};
     ghost use Rattle.mm_job.specs.declared.progress.Progress.TheVariants.{Ended, More};
 
     /// A job with no text so far, with this limit on sizes. It takes no memory yet.
@@ -140,7 +137,7 @@ impl Job {
             (settled_output self.old.text self.old.limit) (settled_output (with_piece self.old.text piece.now) self.old.limit) result }
         ensures steps { steps.new ≡ steps.old }
     {
-        let room = MAX_BYTES - self.taken;
+        let room = MOST_BYTES - self.taken;
         if piece.len() > room {
             self.feed_last(alloc, &piece[..room], out)
         } else {
@@ -164,13 +161,7 @@ impl Job {
         ensures steps { steps.new ≡ steps.old }
     {
         self.live = false;
-        take_text_end(
-            alloc,
-            self.limit,
-            &mut self.state,
-            &mut self.framer,
-            out,
-        )
+        take_text_end(alloc, self.limit, &mut self.state, &mut self.framer, out)
     }
 
     /// Whether the job goes on: no call of `feed` on it answered `Ended`, none answered an error, and it was not finished.

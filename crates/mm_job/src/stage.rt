@@ -1,9 +1,9 @@
 //! A job, line by line.
 ghost use Rattle.std.specs.Prelude.{◌≡◌, ◌∷◌, ◌++◌, List, IfOk};
 ghost use Rattle.mm_lines.specs.declared.line.Line.{Line};
-ghost use Rattle.mm_job.specs.Blocks.{written};
+ghost use Rattle.mm_job.specs.State.Blocks.{written};
 ghost use Rattle.mm_job.specs.Output.{Ending};
-ghost use Rattle.mm_job.specs.Stages.{IsKeptAt, lines_from_stage};
+ghost use Rattle.mm_job.specs.State.Stages.{IsKeptAt, lines_from_stage};
 ghost use Rattle.mm_job.specs.declared.stage.Stage.TheVariants as stages;
 
 use crate::block::Block;

@@ -1,11 +1,11 @@
 //! How far a job has come, and what the lines that it wrote come to.
 ghost use Rattle.std.specs.Prelude.{◌≡◌, ◌++◌, ◌∷◌, ℕ, List, [], None, IfOk};
 ghost use Rattle.mm_lines.specs.declared.line.Line.{Line as LineOf};
-ghost use Rattle.mm_job.specs.Blocks.{lines_from_block, written};
-ghost use Rattle.mm_job.specs.JobStates.{after_output_line, come_to, end_by, is_refused, status_at};
+ghost use Rattle.mm_job.specs.State.Blocks.{lines_from_block, written};
+ghost use Rattle.mm_job.specs.State.JobStates.{after_output_line, come_to, end_by, is_refused, status_at};
 ghost use Rattle.mm_job.specs.Header.{Session};
 ghost use Rattle.mm_job.specs.Output.{Ending, cut_short, is_refusal};
-ghost use Rattle.mm_job.specs.Stages.{IsKeptAt, lines_from_stage};
+ghost use Rattle.mm_job.specs.State.Stages.{IsKeptAt, lines_from_stage};
 ghost use Rattle.mm_header.specs.declared.state.HeaderState.TheVariants as headers;
 ghost use Rattle.mm_job.specs.declared.stage.Stage.TheVariants as stages;
 

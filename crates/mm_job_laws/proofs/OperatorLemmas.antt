@@ -20,7 +20,7 @@ use Rattle.mm_ops.specs.declared.op.OpFault.{OpFault}
 use Rattle.mm_ops.specs.declared.op.OpFault.TheVariants.{Bound, Shape, Dependent}
 use Rattle.mm_ops.proofs.ValidOps.{valid_ops_exactly}
 use Rattle.mm_job_text.specs.Arguments.{args}
-use Rattle.mm_job_text.specs.DigitTexts.{is_digit, digit_of, digits_of, vectors_of}
+use Rattle.mm_space.specs.DigitTexts.{is_digit, digit_of, digits_of, vectors_of}
 use Rattle.mm_job_text.specs.OperatorLines.{OperatorTokens, operator_tokens, third_matrix, shown, operator_fields, third_or_units, operator_of, operator_refusal, table_refusal, operator_line, op_line, HasThirdDigits, HasDigits}
 use Rattle.mm_job_text.specs.declared.format.Format.{Format}
 use Rattle.mm_job_text.specs.declared.operator_line.OperatorLine.{OperatorLine}
@@ -29,7 +29,7 @@ use Rattle.mm_job_text.specs.declared.operator_line.ThirdMatrix.TheVariants.{Uni
 use Rattle.mm_job_text.specs.declared.refusal.Refusal.{Refusal}
 use Rattle.mm_job_text.specs.declared.refusal.Refusal.TheVariants as refusal
 use Rattle.mm_job_text.proofs.ReadingLemmas.{if_require, if_found, if_unless, if_ok}
-use Rattle.mm_job_text.proofs.DigitLemmas.{digits_small, text_of_vectors}
+use Rattle.mm_space.proofs.DigitTextLemmas.{digits_small, text_of_vectors}
 
 -- ---- digits
 

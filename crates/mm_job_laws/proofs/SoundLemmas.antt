@@ -15,7 +15,7 @@ use Rattle.mm_tree.proofs.BuilderLemmas.{distinct_push, none_distinct}
 use Rattle.mm_tree.specs.NamedTree.{Tree, is_one_of}
 use Rattle.mm_tree.specs.ValidTree.{IsValidTree}
 use Rattle.mm_job_text.specs.Arguments.{args, begins, one_of}
-use Rattle.mm_job_text.specs.DigitTexts.{digits_of}
+use Rattle.mm_space.specs.DigitTexts.{digits_of}
 use Rattle.mm_job_text.specs.HeaderLines.{most_rows, format_line, field_line, with_name, with_names, elements_line, row_line, tree_line}
 use Rattle.mm_job_text.specs.OperatorLines.{op_line}
 use Rattle.mm_job_text.specs.Readers.{line, each}

@@ -23,7 +23,7 @@ use Rattle.mm_tree.specs.NamedTree.Tree.{Elem, Void, Join}
 use Rattle.mm_tree.specs.ValidTree.{IsValidTree, most_leaves, most_depth, most_weight}
 use Rattle.mm_tree.specs.declared.builder.BuildFault.TheVariants as fault
 use Rattle.mm_job_text.specs.Arguments.{args, begins, is_word, one_of, two_of, three_of}
-use Rattle.mm_job_text.specs.DigitTexts.{vector_of}
+use Rattle.mm_space.specs.DigitTexts.{vector_of}
 use Rattle.mm_job_text.specs.Readers.{each, line}
 use Rattle.mm_job_text.specs.TreeLines.{tree_refusal, with_leaf, most_boundary, elem_fields, elem_line, void_fields, void_line, join_fields, join_line, is_tree_part, tree_part, the_one, end_line, tree_lines}
 use Rattle.mm_job_text.specs.declared.refusal.Limit.TheVariants as limit
@@ -32,7 +32,7 @@ use Rattle.mm_job_text.specs.declared.tree_lines.ElementLine.{ElementLine}
 use Rattle.mm_job_text.specs.declared.tree_lines.VoidLine.{VoidLine}
 use Rattle.mm_job_laws.proofs.OperatorLemmas.{AreValidOps, named_is_valid}
 use Rattle.mm_job_text.proofs.ReadingLemmas.{IfRead, if_require, if_found, if_unless, if_ok, each_has, line_has, then_has}
-use Rattle.mm_job_text.proofs.DigitLemmas.{text_of_vector}
+use Rattle.mm_space.proofs.DigitTextLemmas.{text_of_vector}
 
 -- ---- the trees that are not joined yet
 

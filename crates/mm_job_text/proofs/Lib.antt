@@ -1,5 +1,4 @@
 pub mod ReaderLemmas
-pub mod DigitLemmas
 mod SpacedLemmas
 mod NumeralLemmas
 mod TextLineLemmas

@@ -11,7 +11,7 @@ use Rattle.mm_ops.specs.Tables.{OperatorList, op_named}
 use Rattle.mm_tree.specs.Building.{AreOver, names_in, leaf_fault, named_fault, joined_by}
 use Rattle.mm_tree.proofs.BuilderLemmas.{over_named}
 use Rattle.mm_tree.specs.NamedTree.{Tree}
-use Rattle.mm_tree.specs.NamedTree.Tree.{Elem, Void, Join}
+use Rattle.mm_tree.specs.NamedTree.Tree.{Elem, Void}
 use Rattle.mm_job_text.specs.Arguments.{begins, is_word}
 use Rattle.mm_job_text.specs.Checks.{◌>>=◌, ◌>>◌}
 use Rattle.mm_job_text.specs.Readers.{Reading, Read, line, each}

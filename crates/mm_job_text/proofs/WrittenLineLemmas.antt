@@ -18,7 +18,7 @@ use Rattle.mm_tree.specs.NamedTree.{Tree, boundary, depth, is_one_of}
 use Rattle.mm_tree.specs.NamedTree.Tree.{Elem, Void, Join}
 use Rattle.mm_tree.specs.TreeText.{spaced, elem_text, void_text, join_text}
 use Rattle.mm_tree.specs.ValidTree.{most_leaves, most_depth, most_weight}
-use Rattle.mm_job_text.specs.DigitTexts.{vector_of}
+use Rattle.mm_space.specs.DigitTexts.{vector_of}
 use Rattle.mm_job_text.specs.TreeLines.{most_boundary, elem_fields, elem_line, void_fields, void_line, join_fields, join_line, is_tree_part, tree_part, end_line}
 use Rattle.mm_job_text.proofs.SpacedLemmas.{IsWord, AreWords, tokens_spaced, plain_spaced, first_spaced, length_spaced}
 use Rattle.mm_job_text.proofs.NumeralLemmas.{decimal_word, length_small, signed_word, length_signed, name_word, vector_word, length_vector}

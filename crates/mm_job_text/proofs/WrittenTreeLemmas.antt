@@ -28,7 +28,7 @@ use Rattle.mm_job_text.specs.Readers.{Reading, Read, and_then, now, line, goes_o
 use Rattle.mm_job_text.specs.TreeLines.{is_tree_part, tree_part, end_line, tree_lines}
 use Rattle.mm_job_text.specs.WrittenTrees.{HoldsJoins}
 use Rattle.mm_job_text.specs.declared.refusal.Refusal.{Refusal}
-use Rattle.mm_job_text.proofs.DigitLemmas.{vector_of_text}
+use Rattle.mm_space.proofs.DigitTextLemmas.{vector_of_text}
 use Rattle.mm_job_text.proofs.NumeralLemmas.{u32_back, i64_back}
 use Rattle.mm_job_text.proofs.SpacedLemmas.{tokens_spaced}
 use Rattle.mm_job_text.proofs.TextLineLemmas.{ArePlain, line_at, lines_at, lines_at_both, lines_of_text}

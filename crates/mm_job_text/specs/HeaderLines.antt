@@ -11,7 +11,7 @@ use Rattle.mm_lines.specs.declared.line.Line.{Line}
 use Rattle.mm_tree.specs.NamedTree.{is_one_of}
 use Rattle.mm_job_text.specs.Arguments.{args, begins, one_of, is_word}
 use Rattle.mm_job_text.specs.Checks.{◌>>=◌, ◌>>◌, require, found}
-use Rattle.mm_job_text.specs.DigitTexts.{digits_of}
+use Rattle.mm_space.specs.DigitTexts.{digits_of}
 use Rattle.mm_job_text.specs.declared.format.Format.{Format}
 use Rattle.mm_job_text.specs.declared.format.Format.TheVariants as format
 use Rattle.mm_job_text.specs.declared.refusal.Limit.TheVariants as limit

@@ -2,7 +2,6 @@ pub mod Words
 pub mod Checks
 pub mod Arguments
 pub mod Readers
-pub mod DigitTexts
 pub mod HeaderLines
 pub mod OperatorLines
 pub mod OperatorTokens

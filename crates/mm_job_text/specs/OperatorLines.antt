@@ -18,7 +18,7 @@ use Rattle.mm_ops.specs.declared.table.OpTableFault.{OpTableFault}
 use Rattle.mm_ops.specs.declared.table.OpTableFault.TheVariants.{NameTaken, Full, NoMemory}
 use Rattle.mm_job_text.specs.Arguments.{args}
 use Rattle.mm_job_text.specs.Checks.{◌>>=◌, ◌>>◌, require, found, unless}
-use Rattle.mm_job_text.specs.DigitTexts.{vectors_of}
+use Rattle.mm_space.specs.DigitTexts.{vectors_of}
 use Rattle.mm_job_text.specs.declared.format.Format.{Format}
 use Rattle.mm_job_text.specs.declared.format.Format.TheVariants as format
 use Rattle.mm_job_text.specs.declared.operator_line.OperatorLine.{OperatorLine}

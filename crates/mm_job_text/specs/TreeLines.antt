@@ -14,7 +14,7 @@ use Rattle.mm_tree.specs.declared.builder.BuildFault.{BuildFault}
 use Rattle.mm_tree.specs.declared.builder.BuildFault.TheVariants as fault
 use Rattle.mm_job_text.specs.Arguments.{args, begins, is_word, one_of, two_of, three_of}
 use Rattle.mm_job_text.specs.Checks.{◌>>=◌, ◌>>◌, require, found, unless, within}
-use Rattle.mm_job_text.specs.DigitTexts.{vector_of}
+use Rattle.mm_space.specs.DigitTexts.{vector_of}
 use Rattle.mm_job_text.specs.Readers.{Reader, each, line}
 use Rattle.mm_job_text.specs.Readers.{◌>>=◌ as ◌>>>=◌}
 use Rattle.mm_job_text.specs.declared.tree_lines.ElementLine.{ElementLine}

@@ -1,12 +1,11 @@
-//! Texts of digits: rows, vectors and lists of vectors.
-ghost use Rattle.std.specs.Prelude.{◌≡◌, MatchOption, IfOk, Some, None, map, true, All, IfSome};
+//! Texts of digits: rows.
+ghost use Rattle.std.specs.Prelude.{◌≡◌, MatchOption, IfOk, Some, None, map, true, IfSome};
 ghost use Rattle.mm_field.specs.Vectors.{AreDigits};
 ghost use Rattle.std.specs.List.{list_all};
-ghost use Rattle.mm_job_text.specs.DigitTexts.{digit_of, digits_of, is_digit, vector_of, vectors_of};
+ghost use Rattle.mm_space.specs.DigitTexts.{digit_of, digits_of, is_digit};
 
 use mm_base::NoMemory;
 use mm_field::Field;
-use mm_space::{Gen, Vector};
 use std::alloc::Global;
 
 /// An ASCII digit of the field.
@@ -46,19 +45,4 @@ pub fn read_digits(alloc: Global, f: Field, bytes: &[u8]) -> Result<Option<Vec<u
         return Ok(None);
     }
     Ok(Some(shown(alloc, f, bytes)?))
-}
-
-/// The vector of at most 18 digits that a token shows.
-pub fn read_vector(f: Field, bytes: &[u8]) -> Option<Vector>
-    ensures { result ≡ vector_of f bytes.now }
-{
-    Vector::read(f, bytes)
-}
-
-/// The vectors that a token shows, at most six.
-pub fn read_vectors(f: Field, bytes: &[u8]) -> Option<Gen>
-    ensures shown { result ≡ vectors_of f bytes.now }
-    ensures digits { IfSome result (λ rows. All (λ v. AreDigits f v) rows) }
-{
-    Gen::read(f, bytes)
 }

@@ -16,7 +16,7 @@ mod rows;
 mod tree_lines;
 
 pub use arguments::{args, begins, is_text, is_word, one, three, too_long, two};
-pub use digits::{read_digits, read_vector, read_vectors};
+pub use digits::read_digits;
 pub use format::Format;
 pub use header_lines::{read_field, read_format, read_tree};
 pub use name_set::NameSet;

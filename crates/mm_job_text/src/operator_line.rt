@@ -4,7 +4,6 @@ ghost use Rattle.mm_job_text.specs.OperatorLines.{HasDigits, HasThirdDigits, eig
 ghost use Rattle.mm_job_text.specs.OperatorTokens.{tokens_of};
 
 use crate::arguments::args;
-use crate::digits::read_vectors;
 use crate::format::Format;
 use crate::refusal::Refusal;
 use mm_base::Name;
@@ -141,10 +140,10 @@ fn shown(f: Field, written: &Written<'_>, refused: Refusal) -> Result<OperatorLi
     let Some(c) = read_u32(written.c) else {
         return Err(refused);
     };
-    let Some(g1) = read_vectors(f, written.g1) else {
+    let Some(g1) = Gen::read(f, written.g1) else {
         return Err(refused);
     };
-    let Some(g2) = read_vectors(f, written.g2) else {
+    let Some(g2) = Gen::read(f, written.g2) else {
         return Err(refused);
     };
     let g3 = third_matrix(f, written.g3, refused)?;
@@ -167,7 +166,7 @@ fn third_matrix(f: Field, written: Option<&[u8]>, refused: Refusal) -> Result<Th
 {
     match written {
         None => Ok(ThirdMatrix::Units),
-        Some(bytes) => match read_vectors(f, bytes) {
+        Some(bytes) => match Gen::read(f, bytes) {
             Some(g3) => Ok(ThirdMatrix::Written(g3)),
             None => Err(refused),
         },

@@ -3,7 +3,6 @@ ghost use Rattle.std.specs.Prelude.{◌≡◌};
 ghost use Rattle.mm_job_text.specs.TreeLines.{elem_fields, is_tree_part, join_fields, void_fields};
 
 use crate::arguments::{args, begins, one, three, two};
-use crate::digits::read_vector;
 use crate::refusal::{Limit, Refusal};
 use mm_base::Name;
 use mm_field::Field;
@@ -47,7 +46,7 @@ pub fn read_element(f: Field, line: &Line) -> Result<ElementLine, Refusal>
     let Some(name) = Name::read(name) else {
         return Err(Refusal::Syntax(line.number));
     };
-    let Some(vec) = read_vector(f, vec) else {
+    let Some(vec) = Vector::read(f, vec) else {
         return Err(Refusal::Syntax(line.number));
     };
     let Some(weight) = read_i64(weight) else {

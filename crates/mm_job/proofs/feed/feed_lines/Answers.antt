@@ -1,5 +1,5 @@
 use Rattle.std.proofs.Common.{◌∙◌, refl, arith}
-use Rattle.mm_job.specs.Feeding.{left}
+use Rattle.mm_job.specs.State.Feeding.{left}
 use Rattle.mm_job.proofs.FeedLemmas.{fed_nothing, fed_trans, front_then, on_err}
 use Rattle.mm_job.proofs.feed.feed_lines.Goals as goal
 

@@ -1,6 +1,6 @@
 use Rattle.std.proofs.Common.{◌≡◌, ◌≤◌, length}
-use Rattle.mm_job.specs.Feeding.{Fed, IsWithin, left}
-use Rattle.mm_job.specs.Stages.{IsKeptAt}
+use Rattle.mm_job.specs.State.Feeding.{Fed, IsWithin, left}
+use Rattle.mm_job.specs.State.Stages.{IsKeptAt}
 use Rattle.mm_job.proofs.feed.feed_lines.Given as goal
 
 abbrev pub invariant-lines : goal.invariant-lines

@@ -1,6 +1,6 @@
 use Rattle.std.specs.Prelude.{◌++◌}
 use Rattle.mm_job.specs.Output.{More, Over}
-use Rattle.mm_job.specs.Standing.{written_at}
+use Rattle.mm_job.specs.State.Standing.{written_at}
 use Rattle.mm_job.proofs.FeedLemmas.{cause_after, on_err}
 use Rattle.mm_job.proofs.StandingLemmas.{last_front, last_grew, last_status}
 use Rattle.mm_job.proofs.feed.take_last.Goals as goal

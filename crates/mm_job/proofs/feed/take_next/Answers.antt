@@ -1,8 +1,8 @@
 use Rattle.std.proofs.Common.{sym}
 use Rattle.std.specs.Prelude.{None, Some}
-use Rattle.mm_job.specs.Feeding.{left}
+use Rattle.mm_job.specs.State.Feeding.{left}
 use Rattle.mm_job.specs.Output.{printed_all}
-use Rattle.mm_job.specs.Stages.{lines_from_stage}
+use Rattle.mm_job.specs.State.Stages.{lines_from_stage}
 use Rattle.mm_job.proofs.FeedLemmas.{all_left, fed_left, front_left, front_none, line_left, on_err, shorter, still_within}
 use Rattle.mm_job.proofs.feed.take_next.Goals as goal
 

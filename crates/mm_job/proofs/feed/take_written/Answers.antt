@@ -1,4 +1,4 @@
-use Rattle.mm_job.specs.Blocks.{written}
+use Rattle.mm_job.specs.State.Blocks.{written}
 use Rattle.mm_job.proofs.FeedLemmas.{front_line, on_err}
 use Rattle.mm_job.proofs.feed.take_written.Goals as goal
 

@@ -1,5 +1,5 @@
 use Rattle.std.proofs.Common.{sym, ◌∙◌}
-use Rattle.mm_job.specs.Sessions.{session_of}
+use Rattle.mm_job.specs.State.Sessions.{session_of}
 use Rattle.mm_job.proofs.BlockLemmas.{opened, refused_item}
 use Rattle.mm_job.proofs.items.take_between.Goals as goal
 

@@ -1,5 +1,5 @@
 use Rattle.std.proofs.Common.{sym, ◌∙◌, refl}
-use Rattle.mm_job.specs.Sessions.{session_of}
+use Rattle.mm_job.specs.State.Sessions.{session_of}
 use Rattle.mm_job.proofs.BlockLemmas.{ended, inside}
 use Rattle.mm_job.proofs.items.take_inside.Goals as goal
 

@@ -8,7 +8,7 @@ use Rattle.mm_tree.specs.NamedTree.{shape}
 use Rattle.mm_job.specs.Meaning.{everything}
 use Rattle.mm_job.specs.PlainTruth.{plain_truth}
 use Rattle.mm_job.specs.Output.{answered}
-use Rattle.mm_job.specs.Sessions.{session_of}
+use Rattle.mm_job.specs.State.Sessions.{session_of}
 use Rattle.mm_job.specs.declared.output_line.OutputLine.{OutputLine}
 use Rattle.mm_job.specs.declared.output_line.OutputLine.TheVariants.{Says}
 use Rattle.mm_job.proofs.TruthLemmas.{output_line_answer}

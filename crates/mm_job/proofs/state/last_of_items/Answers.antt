@@ -1,5 +1,5 @@
 use Rattle.std.proofs.Common.{true, false, sym, ◌∙◌}
-use Rattle.mm_job.specs.JobStates.{end_by}
+use Rattle.mm_job.specs.State.JobStates.{end_by}
 use Rattle.mm_job.proofs.EndLemmas.{end_between, end_inside}
 use Rattle.mm_job.proofs.state.last_of_items.Goals as goal
 

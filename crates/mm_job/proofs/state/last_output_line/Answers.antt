@@ -1,5 +1,5 @@
 use Rattle.std.proofs.Common.{sym, ◌∙◌}
-use Rattle.mm_job.specs.JobStates.{end_by}
+use Rattle.mm_job.specs.State.JobStates.{end_by}
 use Rattle.mm_job.proofs.EndLemmas.{end_head, end_query}
 use Rattle.mm_job.proofs.state.last_output_line.Goals as goal
 

@@ -1,7 +1,7 @@
 use Rattle.std.proofs.Common.{◌≡◌, true}
 use Rattle.std.specs.List.{list_all}
-use Rattle.mm_job_text.specs.DigitTexts.{is_digit}
-use Rattle.mm_job_text.proofs.DigitLemmas.{small_digits}
+use Rattle.mm_space.specs.DigitTexts.{is_digit}
+use Rattle.mm_space.proofs.DigitTextLemmas.{small_digits}
 use Rattle.mm_job_text.proofs.digits.read_digits.Goals as goal
 
 pub returns-clause-digits : goal.returns-clause-digits

@@ -1,5 +1,5 @@
 use Rattle.std.proofs.Common.{◌≡◌, map, take}
-use Rattle.mm_job_text.specs.DigitTexts.{digit_of}
+use Rattle.mm_space.specs.DigitTexts.{digit_of}
 use Rattle.mm_job_text.proofs.digits.shown.Given as goal
 
 abbrev pub invariant-bytes : goal.invariant-bytes

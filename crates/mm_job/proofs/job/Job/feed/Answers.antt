@@ -3,7 +3,7 @@ use Rattle.std.proofs.lemmas.Result.{on_ok_weaker, on_err_weaker}
 use Rattle.mm_lines.specs.Lines.{most_bytes, settled}
 use Rattle.mm_job.specs.Jobs.{Grew, GrewByFront, progress, with_piece}
 use Rattle.mm_job.specs.Output.{Over, settled_output, status_of, written_lines}
-use Rattle.mm_job.specs.Standing.{written_at}
+use Rattle.mm_job.specs.State.Standing.{written_at}
 use Rattle.mm_job.specs.declared.progress.Progress.TheVariants.{Ended}
 use Rattle.mm_job.proofs.JobLemmas.{fits, last_output, last_progress, room_of, value_as}
 use Rattle.mm_job.proofs.job.Job.feed.Goals as goal

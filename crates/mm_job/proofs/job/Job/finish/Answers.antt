@@ -2,7 +2,7 @@ use Rattle.std.proofs.Common.{List, ℕ}
 use Rattle.std.proofs.lemmas.Result.{on_ok_weaker, on_err_weaker}
 use Rattle.mm_job.specs.Jobs.{Grew, GrewByFront}
 use Rattle.mm_job.specs.Output.{More, output, settled_output}
-use Rattle.mm_job.specs.Standing.{written_at}
+use Rattle.mm_job.specs.State.Standing.{written_at}
 use Rattle.mm_job.proofs.JobLemmas.{live_of, of_state}
 use Rattle.mm_job.proofs.job.Job.finish.Goals as goal
 

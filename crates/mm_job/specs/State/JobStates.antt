@@ -1,4 +1,4 @@
--- What the lines that a job has written come to.
+-- Between code and definitions: what the lines that a job has written come to.
 use Rattle.std.specs.Prelude.{Bool, true, false, List, [], ◌∷◌, Option, Some, None, if◌then◌else◌}
 use Rattle.mm_base.specs.declared.status.Status.{Status}
 use Rattle.mm_base.specs.declared.status.Status.TheVariants as status

@@ -1,4 +1,4 @@
--- The sessions of the program.
+-- Between code and definitions: what the sessions of the program are to the definitions.
 use Rattle.mm_job.specs.Header as header
 use Rattle.std.specs.Prelude.{ℕ}
 use Rattle.mm_header.specs.Queries.{Query}

@@ -1,13 +1,13 @@
--- What a job that has read some lines writes for the lines that are left.
+-- Between code and definitions: what a job that has read some lines writes for the lines that are left.
 use Rattle.std.specs.Prelude.{◌≡◌, ℕ, List, [], true}
-use Rattle.mm_job.specs.Blocks.{AreBegun, lines_from_block}
+use Rattle.mm_job.specs.State.Blocks.{AreBegun, lines_from_block}
 use Rattle.mm_job.specs.Header.{after_parts, query_part, started}
 use Rattle.mm_header.specs.QueryValues.{query_value}
 use Rattle.mm_header.specs.Rules.{job_rules}
 use Rattle.mm_header.specs.State.HeaderStates.{IsHeader, IsKept, header_value, parts_from}
 use Rattle.mm_job.specs.NotBuilt.{is_built}
 use Rattle.mm_job.specs.Output.{Ending, lines_after_header}
-use Rattle.mm_job.specs.Sessions.{session_of}
+use Rattle.mm_job.specs.State.Sessions.{session_of}
 use Rattle.mm_job.specs.declared.output_line.OutputLine.{OutputLine}
 use Rattle.mm_job.specs.declared.stage.Stage.{Stage}
 use Rattle.mm_job.specs.declared.stage.Stage.TheVariants as stage

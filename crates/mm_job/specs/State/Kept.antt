@@ -1,8 +1,8 @@
--- The fields of a job, and the facts that keep them.
+-- Between code and definitions: the fields of a job, and the facts that keep them.
 use Rattle.std.specs.Prelude.{◌≡◌, ◌≤◌, true, length}
 use Rattle.mm_lines.specs.Lines.{most_bytes}
 use Rattle.mm_job.specs.Jobs.{JobValue}
-use Rattle.mm_job.specs.Standing.{IsRead, Stands}
+use Rattle.mm_job.specs.State.Standing.{IsRead, Stands}
 use Rattle.mm_job.specs.declared.job.Job.TheInside.{Inside}
 
 -- what callers see of the fields

@@ -1,8 +1,8 @@
--- What the state of a job owes to the text that it has taken.
+-- Between code and definitions: what the state of a job owes to the text that it has taken.
 use Rattle.std.specs.Prelude.{◌≡◌, ℕ, false, List, ◌++◌, length, None}
-use Rattle.mm_job.specs.JobStates.{come_to}
+use Rattle.mm_job.specs.State.JobStates.{come_to}
 use Rattle.mm_job.specs.Output.{Ending, More, printed_all, written_lines}
-use Rattle.mm_job.specs.Stages.{IsKeptAt, lines_from_stage}
+use Rattle.mm_job.specs.State.Stages.{IsKeptAt, lines_from_stage}
 use Rattle.mm_job.specs.declared.state.JobState.{JobState}
 use Rattle.mm_lines.specs.Lines.{lines_of, settled}
 use Rattle.mm_lines.specs.Streams.{Stream}

@@ -1,9 +1,9 @@
--- What a job has written of the lines that it has taken, whatever comes after them.
+-- Between code and definitions: what a job has written of the lines that it has taken, whatever comes after them.
 use Rattle.std.specs.Prelude.{◌≡◌, ℕ, ◌≤◌, List, ◌++◌, length, drop, Option}
 use Rattle.std.specs.Io.KnownBytes.{Appends}
-use Rattle.mm_job.specs.JobStates.{come_to}
+use Rattle.mm_job.specs.State.JobStates.{come_to}
 use Rattle.mm_job.specs.Output.{Ending, printed_all}
-use Rattle.mm_job.specs.Stages.{lines_from_stage}
+use Rattle.mm_job.specs.State.Stages.{lines_from_stage}
 use Rattle.mm_job.specs.declared.state.JobState.{JobState}
 use Rattle.mm_job.specs.declared.output_line.OutputLine.{OutputLine}
 use Rattle.mm_lines.specs.Lines.{lines_of}

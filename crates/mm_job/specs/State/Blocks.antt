@@ -1,4 +1,4 @@
--- What the state between and inside the items of a job makes of the lines that are left.
+-- Between code and definitions: what the state between and inside the items of a job makes of the lines that are left.
 use Rattle.std.specs.Prelude.{List, [], ◌∷◌, Option, Some, None, Ok}
 use Rattle.std.specs.List.{IsDistinct}
 use Rattle.std.specs.Str.{bytes_eq}
