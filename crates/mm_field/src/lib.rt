@@ -129,38 +129,3 @@ impl Field {
 pub fn digits_form_a_field(f: Field)
     ensures { IsField f }
 {}
-
-#[cfg(test)]
-mod tests {
-    use super::*;
-
-    #[test]
-    fn fields_of_orders(rt: HostRuntime) {
-        for q in [0, 1, 6, 7, 9] {
-            assert_eq!(rt; Field::of(q), None, "at {q}");
-        }
-        for q in [2, 3, 4, 5] {
-            assert_eq!(rt; Field::of(q).map(|f| f.q()), Some(q), "at {q}");
-        }
-    }
-
-    #[test]
-    fn digits_of_gf4_and_gf5(rt: HostRuntime) {
-        assert_eq!(rt; Field::Four.mul(2, 3), 1);
-        assert_eq!(rt; Field::Four.mul(2, 2), 3);
-        assert_eq!(rt; Field::Four.add(2, 3), 1);
-        assert_eq!(rt; Field::Four.neg(2), 2);
-        assert_eq!(rt; Field::Four.inv(2), 3);
-        assert_eq!(rt; Field::Five.inv(3), 2);
-        assert_eq!(rt; Field::Five.neg(3), 2);
-        assert_eq!(rt; Field::Three.neg(1), 2);
-    }
-
-    #[test]
-    fn digits_in_ascii(rt: HostRuntime) {
-        assert_eq!(rt; Field::Three.digit(b'2'), Some(2));
-        assert_eq!(rt; Field::Three.digit(b'3'), None);
-        assert_eq!(rt; Field::Five.digit(b'0'), Some(0));
-        assert_eq!(rt; Field::Five.digit(b'/'), None);
-    }
-}

@@ -28,6 +28,3 @@ pub use refusal_text::words;
 pub use round_trip::{read_trees_have_their_operators, written_trees_are_read_back};
 pub use rows::add_row;
 pub use tree_lines::{ElementLine, VoidLine, is_tree_part, read_element, read_join, read_void};
-
-#[cfg(test)]
-mod tests;

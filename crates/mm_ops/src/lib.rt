@@ -9,6 +9,3 @@ mod table;
 pub use laws::valid_operators_have_no_fault;
 pub use op::{Op, OpFault};
 pub use table::{OpTable, OpTableFault};
-
-#[cfg(test)]
-mod tests;

@@ -154,26 +154,3 @@ fn back(bytes: &[u8], p: usize) -> &[u8]
 {
     &bytes[p + 1..]
 }
-
-#[cfg(test)]
-mod tests {
-    use super::*;
-
-    #[test]
-    fn rows_read(rt: HostRuntime) {
-        for (text, rows) in [
-            (&b"."[..], Some(0)),
-            (b"-", Some(1)),
-            (b"10/01", Some(2)),
-            (b"1/-/1/1/1/1", Some(6)),
-            (b"1/1/1/1/1/1/1", None),
-            (b"10/", None),
-            (b"/1", None),
-            (b"./1", None),
-            (b"12", None),
-            (b"", None),
-        ] {
-            assert_eq!(rt; Gen::read(Field::Two, text).map(|g| g.rows()), rows);
-        }
-    }
-}

@@ -245,32 +245,3 @@ fn with_rows(t: usize, marks: u64, rows: &Rows) -> (u128, u8)
     }
     (packed, rank)
 }
-
-#[cfg(test)]
-mod tests {
-    use super::*;
-
-    #[test]
-    fn basis_of_a_line(rt: HostRuntime) {
-        let v = Vector::read(Field::Three, b"20").expect(&rt, "a vector");
-        if v.len() <= 6 {
-            let key = Key::span_of(Field::Three, &v);
-            assert_eq!(rt; key.t(), 2);
-            assert_eq!(rt;
-                Some(key.basis(Field::Three)),
-                Gen::read(Field::Three, b"10")
-            );
-        } else {
-            assert!(rt; false);
-        }
-    }
-
-    #[test]
-    fn zero_keys(rt: HostRuntime) {
-        let key = Key::zero(Field::Five, 6);
-        assert_eq!(rt; key.t(), 6);
-        assert_eq!(rt; key.basis(Field::Five).rows(), 0);
-        assert!(rt; key != Key::zero(Field::Four, 6));
-        assert!(rt; key != Key::zero(Field::Five, 5));
-    }
-}

@@ -122,32 +122,3 @@ pub(crate) fn is_byte(bytes: &[u8], b: u8) -> bool
 {
     bytes.len() == 1 && bytes[0] == b
 }
-
-#[cfg(test)]
-mod tests {
-    use super::*;
-
-    #[test]
-    fn vectors_read(rt: HostRuntime) {
-        let v = Vector::read(Field::Three, b"12");
-        assert_eq!(rt; v.map(|v| v.len()), Some(2));
-        assert_eq!(rt;
-            v,
-            Some(Vector::of(
-                2,
-                [
-                    1, 2, 0, 0, 0, 0, 0, 0, 0, 0, 0, 0, 0, 0, 0, 0, 0, 0, 0, 0, 0, 0, 0, 0
-                ]
-            ))
-        );
-        assert_eq!(rt; Vector::read(Field::Three, b"13"), None);
-        assert_eq!(rt; Vector::read(Field::Three, b"-"), Some(Vector::none()));
-        assert_eq!(rt; Vector::read(Field::Three, b""), None);
-        assert_eq!(rt; Vector::read(Field::Three, b"-1"), None);
-        assert_eq!(rt;
-            Vector::read(Field::Two, b"101010101010101010").map(|v| v.len()),
-            Some(18)
-        );
-        assert_eq!(rt; Vector::read(Field::Two, b"1010101010101010101"), None);
-    }
-}

@@ -4,9 +4,9 @@ ghost use Rattle.std.specs.List.{list_all};
 ghost use Rattle.mm_formula.specs.Variables.{is_set};
 ghost use Rattle.mm_formula.specs.Scope.{outermost};
 
-use mm_formula_text::{ReadFault, print, read};
 use mm_base::{NoMemory, Text};
 use mm_formula::{ScopeFault, Scoped, Var};
+use mm_formula_text::{ReadFault, print, read};
 use std::alloc::Global;
 use std::test::Fail;
 

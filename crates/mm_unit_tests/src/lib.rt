@@ -6,10 +6,18 @@
 #[cfg(test)]
 mod base;
 #[cfg(test)]
+mod field;
+#[cfg(test)]
 mod formula;
 #[cfg(test)]
 mod formula_text;
 #[cfg(test)]
+mod job_text;
+#[cfg(test)]
 mod lines;
+#[cfg(test)]
+mod ops;
+#[cfg(test)]
+mod space;
 #[cfg(test)]
 mod states;

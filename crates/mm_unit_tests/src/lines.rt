@@ -1,6 +1,6 @@
 //! Values from outside, and each call once with memory at hand.
-use mm_lines::{Framer, Line, LineText, read_i64, read_u32};
 use mm_base::NoMemory;
+use mm_lines::{Framer, Line, LineText, read_i64, read_u32};
 use std::alloc::Global;
 
 /// The text of a line with slashes between its number and its tokens.

@@ -1,8 +1,8 @@
 //! The words of refusals, and a written line that is read.
 
-use crate::{Limit, Refusal, read_element, words};
 use mm_base::Name;
 use mm_field::Field;
+use mm_job_text::{Limit, Refusal, read_element, words};
 use mm_lines::{Framer, Line};
 use mm_space::Vector;
 use mm_tree::{Builder, Tree, write_tree};

@@ -1,8 +1,8 @@
 //! Operators with known faults, and a table of two.
 
-use crate::{Op, OpFault, OpTable, OpTableFault};
 use mm_base::Name;
 use mm_field::Field;
+use mm_ops::{Op, OpFault, OpTable, OpTableFault};
 use mm_space::Gen;
 use std::test::Fail;
 
