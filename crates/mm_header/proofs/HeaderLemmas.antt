@@ -1,14 +1,14 @@
 -- The readers of a header are steady, and want more where no line is left.
-use Rattle.std.specs.Prelude.{◌≡◌, refl, ℕ, List, [], length, codes, Ok}
+use Rattle.std.specs.Prelude.{◌≡◌, refl, List, [], length, codes, Ok}
 use Rattle.mm_tree.specs.NamedTree.{Tree}
 use Rattle.mm_job_text.specs.Arguments.{begins}
 use Rattle.mm_job_text.specs.HeaderLines.{format_line, field_line, elements_line, row_line, tree_line}
 use Rattle.mm_job_text.specs.OperatorLines.{op_line}
-use Rattle.mm_job_text.specs.Readers.{Short, line}
+use Rattle.mm_job_text.specs.Readers.{Short}
 use Rattle.mm_job_text.specs.TreeLines.{tree_lines}
 use Rattle.mm_job_text.specs.declared.format.Format.{Format}
 use Rattle.mm_job_text.proofs.ReaderLemmas.{IsSteady, now_steady, line_steady, each_steady, bind_steady, tree_lines_steady}
-use Rattle.mm_header.specs.Header.{HeaderValue, Parts, parts, field_part, elements_part, rows_part, ops_part, tree_part_of}
+use Rattle.mm_header.specs.Header.{HeaderValue, parts, field_part, elements_part, rows_part, ops_part, tree_part_of}
 use Rattle.mm_header.specs.State.HeaderStates.{parts_from}
 use Rattle.mm_header.specs.declared.rules.HeaderRules.{HeaderRules}
 use Rattle.mm_header.specs.declared.state.HeaderState.{HeaderState}

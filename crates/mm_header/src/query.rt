@@ -1,7 +1,7 @@
 //! The query line of a text.
 ghost use Rattle.std.specs.Prelude.{◌≡◌, true, IfOk, None, Some};
 ghost use Rattle.std.specs.List.{list_all};
-ghost use Rattle.mm_formula.specs.Scope.{outermost, scope_fault};
+ghost use Rattle.mm_formula.specs.Scope.{outermost};
 ghost use Rattle.mm_formula.specs.Syntax.{is_well_sorted, syntax_of};
 ghost use Rattle.mm_formula.specs.Variables.{is_set};
 ghost use Rattle.mm_job_text.specs.Becoming.{Reads, StopsAs};

@@ -82,10 +82,7 @@ fn take_format(line: &Line) -> Result<Format, Stop>
     if let Some(refusal) = too_long(line) {
         return Err(Stop::Refused(refusal));
     }
-    match read_format(line) {
-        Ok(format) => Ok(format),
-        Err(refusal) => Err(Stop::Refused(refusal)),
-    }
+    Ok(read_format(line)?)
 }
 
 /// Takes the line of the field.
@@ -98,14 +95,12 @@ fn take_field(alloc: Global, format: Format, line: &Line) -> Result<Elements, St
     if let Some(refusal) = too_long(line) {
         return Err(Stop::Refused(refusal));
     }
-    match read_field(line) {
-        Ok(field) => Ok(Elements {
-            format,
-            field,
-            names: NameSet::new(alloc),
-        }),
-        Err(refusal) => Err(Stop::Refused(refusal)),
-    }
+    let field = read_field(line)?;
+    Ok(Elements {
+        format,
+        field,
+        names: NameSet::new(alloc),
+    })
 }
 
 /// Takes a line of elements.
@@ -195,10 +190,7 @@ fn take_tree(header: &HeaderData, line: &Line) -> Result<(), Stop>
     if let Some(refusal) = too_long(line) {
         return Err(Stop::Refused(refusal));
     }
-    match read_tree(line) {
-        Ok(()) => Ok(()),
-        Err(refusal) => Err(Stop::Refused(refusal)),
-    }
+    Ok(read_tree(line)?)
 }
 
 /// Takes a line of the tree that is not its `end`.
@@ -231,10 +223,7 @@ fn take_end(header: &HeaderData, trees: Trees, line: &Line) -> Result<Tree, Stop
     if let Some(refusal) = too_long(line) {
         return Err(Stop::Refused(refusal));
     }
-    match trees.end(line) {
-        Ok(tree) => Ok(tree),
-        Err(refusal) => Err(Stop::Refused(refusal)),
-    }
+    Ok(trees.end(line)?)
 }
 
 /// Takes a line of the tree, or its `end`.
@@ -340,9 +329,7 @@ fn take_second(alloc: Global, format: Format, line: &Line) -> Result<HeaderStep,
     ensures goes { (rules : RulesOf) (rs : List LineOf) →
         Goes result (field_part rules format (line.now ∷ rs)) (λ s. parts_after rules s rs) }
 {
-    Ok(HeaderStep::More(HeaderState::Elements(take_field(
-        alloc, format, line,
-    )?)))
+    Ok(HeaderStep::More(HeaderState::Elements(take_field(alloc, format, line)?)))
 }
 
 /// Takes a line of the header, after what was read of it. What all lines from this one on make of the header is what those after it

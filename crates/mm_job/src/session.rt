@@ -21,9 +21,9 @@ use crate::items::says;
 use crate::output_line::OutputLine;
 use crate::truth::{is_plain, plain_truth, speaks_of_all};
 use mm_base::NoMemory;
-use mm_header::{HeaderData, Question, match_rows, read_query};
 use mm_field::Field;
 use mm_formula::{Formula, Scoped};
+use mm_header::{HeaderData, Question, match_rows, read_query};
 use mm_job_text::{Refusal, Stop};
 use mm_lines::Line;
 use mm_ops::OpTable;
@@ -94,10 +94,8 @@ fn built_query(alloc: Global, line: &Line) -> Result<Scoped, Stop>
     ensures reads { Reads query_value result (built_line line.now) }
 {
     let query = read_query(alloc, Question::Spelled, line)?;
-    match built(&query) {
-        Ok(()) => Ok(query),
-        Err(refusal) => Err(Stop::Refused(refusal)),
-    }
+    built(&query)?;
+    Ok(query)
 }
 
 /// How many nodes a formula has.
@@ -144,10 +142,8 @@ fn checked_query(
 {
     let query = built_query(alloc, line)?;
     match_rows(alloc, header, tree)?;
-    match within_limit(limit, &query, tree) {
-        Ok(()) => Ok(query),
-        Err(refusal) => Err(Stop::Refused(refusal)),
-    }
+    within_limit(limit, &query, tree)?;
+    Ok(query)
 }
 
 /// Takes the query line after a header and its tree.
