@@ -87,14 +87,14 @@ fed_trans limit a b c lines lines_now lines_after held held_now held_after p q =
       comes = q.comes ∙ ap (λ (s : Option Status). come_to s q.outputs) p.comes ∙ sym (come_on a.status p.outputs q.outputs);
     }
 
--- what is told of the lines is what is said of the first of them and what is told after it
+-- what is written of the lines is what is written of the first of them and what is written after it
 written_on : (limit : ℕ) (old new : JobState) (lines lines_now : List Line) (held held_now : Option (List ℕ)) → (fed : Fed limit old new lines lines_now held held_now)
     → (e : Ending) → printed_all (lines_from_stage limit old.stage e lines) ≡ printed_all fed.outputs ++ printed_all (lines_from_stage limit new.stage e lines_now)
 written_on limit old new lines lines_now held held_now fed e =
     ap (λ (l : List Line). printed_all (lines_from_stage limit old.stage e l)) (sym (append-nil lines)) ∙ ap printed_all (fed.same e [])
     ∙ ap (λ (l : List Line). printed_all (fed.outputs ++ lines_from_stage limit new.stage e l)) (append-nil lines_now) ∙ flat_map-append printed fed.outputs (lines_from_stage limit new.stage e lines_now)
 
--- what was written before, and a front of what is told then
+-- what was written before, and a front of what is written then
 pub front_then : (limit : ℕ) (old new : JobState) (lines lines_now : List Line) (held held_now held_after : Option (List ℕ)) → Fed limit old new lines lines_now held held_now
     → ((e : Ending) → GrowsByFront held_now held_after (printed_all (lines_from_stage limit new.stage e lines_now)))
     → (e : Ending) → GrowsByFront held held_after (printed_all (lines_from_stage limit old.stage e lines))
