@@ -3,7 +3,7 @@ mod SideLemmas
 mod OperatorEquality
 mod KnownLemmas
 mod GrowLemmas
-mod SolveLemmas
+mod CoordinateLemmas
 mod RangeLemmas
 pub mod TreeRows
 mod NodeLemmas
