@@ -1,6 +1,5 @@
 pub mod RowFormLemmas
 mod SideLemmas
-mod OperatorEquality
 mod KnownLemmas
 mod GrowLemmas
 mod CoordinateLemmas
