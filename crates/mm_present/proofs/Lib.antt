@@ -1,9 +1,8 @@
 pub mod RowFormLemmas
 mod SideLemmas
-mod OperatorEquality
 mod KnownLemmas
 mod GrowLemmas
-mod SolveLemmas
+mod CoordinateLemmas
 mod RangeLemmas
 pub mod TreeRows
 mod NodeLemmas

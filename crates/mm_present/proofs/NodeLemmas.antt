@@ -10,7 +10,7 @@ use Rattle.mm_matrix.specs.MatrixValue.{MatrixValue}
 use Rattle.mm_ops.specs.OpValue.{OpValue}
 use Rattle.mm_tree.specs.NamedTree.{Tree, shape, nodes as nodes_of}
 use Rattle.mm_tree.specs.NamedTree.Tree.{Join}
-use Rattle.mm_tree.specs.Nodes.{named, named_leaf, IsOver, field_of}
+use Rattle.mm_tree.specs.Nodes.{named, named_leaf, IsOver}
 use Rattle.mm_tree.specs.declared.node.Item.{Item}
 use Rattle.mm_tree.specs.declared.node.Leaf as leaves
 use Rattle.mm_tree.specs.declared.node.Node as nodes
@@ -122,12 +122,6 @@ join_collected f op S L R first second at before after total old mid last new ef
 -- nothing is put at a leaf
 pub leaf_collected : (f : Field) (S : shapes.Tree) (before after : ℕ) (old : List (List ℕ)) → internal S ≡ 0 → old ≡ old ++ reverse (placed_rows f before after S)
 leaf_collected f S before after old e = sym (ap (λ rows. old ++ reverse rows) (none_placed f S before after e) ∙ append-nil old)
-
--- the field of a tree
-pub field_is : (f : Field) (node : nodes.Node) → IsOver f node → field_of node ≡ f
-unfolding field_of IsOver
-field_is f (nodes.Leaf l) h = h.0
-field_is f (nodes.Join' name op p l q r) h = h.0
 
 nodes_join : (name : List ℕ) (op : OpValue) (l r : Tree) → nodes_of (Join name op.op l r) ≡ nodes_of l + nodes_of r + 1
 unfolding nodes_of

@@ -6,7 +6,6 @@ ghost use Rattle.std.specs.Str.{bytes_eq};
 ghost use Rattle.mm_present.specs.Comparing.{compared, compared_rows, digit_at, first_missing, first_outside};
 ghost use Rattle.mm_present.specs.Ordering.{IsPlaceBelow};
 
-use crate::elements::elements;
 use crate::present::matrix_of;
 use crate::{Named, Verdict};
 use indexmap::IndexSet;
@@ -122,7 +121,7 @@ pub fn compare(alloc: Global, given: &Named, tree: &Tree) -> Result<Verdict, NoM
     requires different { IsDistinct bytes_eq given.now.names }
     ensures { IfOk result (λ v. v ≡ compared tree.now.f (record { names = given.now.names; rows = given.now.rows.rows }) tree.now.tree) }
 {
-    let elements = elements(alloc, tree)?;
+    let elements = tree.elements(alloc)?;
     let given_names = set_of(alloc, &given.names)?;
     let element_names = set_of(alloc, &elements)?;
     if let Some(name) = first_missing(&given.names, &element_names) {

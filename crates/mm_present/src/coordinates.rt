@@ -1,110 +1,65 @@
 //! The boundary digits and the internal digits of the vectors of a join: their coordinates in the basis of the rows of G3 and the unit
 //! vectors at its free columns.
 
-ghost use Rattle.std.specs.Prelude.{◌≡◌, ◌<◌, ◌≤◌, ◌+◌, ℕ, IfOk, length, map, take, drop, slice_index_or};
-ghost use Rattle.std.specs.List.{range_with_len};
-ghost use Rattle.mm_field.specs.Digits.{order};
-ghost use Rattle.mm_field.specs.Vectors.{AreDigits, IsVector, AreVectors};
-ghost use Rattle.mm_linear.specs.Coordinates as basis_words;
-ghost use Rattle.mm_linear.specs.Decide.{is_in_span};
-ghost use Rattle.mm_linear.specs.ReducedEchelon.{reduced_basis};
+ghost use Rattle.std.specs.Prelude.{◌≡◌, ◌<◌, ◌≤◌, ◌+◌, ◌++◌, ◌↔◌, ℕ, true, IfOk, length, map, drop, slice_index, All, IsTrue, Contains};
+ghost use Rattle.mm_field.specs.Vectors.{IsVector, AreVectors};
+ghost use Rattle.mm_linear.specs.Coordinates.{is_pivot, free_columns};
 ghost use Rattle.mm_logic.specs.Operator.{IsValidOp, row_length};
-ghost use Rattle.mm_present.specs.Bases.{IsBasisOf, space_after};
+ghost use Rattle.mm_logic.specs.PresentMatrix.{column_digits};
+ghost use Rattle.mm_present.specs.Bases.{IsBasisOf, augmented};
 ghost use Rattle.mm_present.specs.RowForm.{in_join};
 
-use crate::vectors::{digits_of, rows_of, unit};
+use crate::vectors::{digits_of, negative_unit};
 use mm_base::NoMemory;
-use mm_field::{Field, lanes};
+use mm_field::Field;
 use mm_matrix::{Echelon, Matrix};
 use mm_ops::Op;
-use mm_space::Gen;
+use mm_space::{Gen, Vector};
 use std::alloc::Global;
 
-/// A basis of the space of a join: the rows of G3 and the unit vectors at its free columns, in `rows`, and the span of the rows after each
-/// row.
+/// What the coordinates in the space of a join are found by: the rows of G3 beside the negative unit matrix, reduced, and the free
+/// columns of G3.
 #[derive(Drop)]
 pub(crate) struct Basis {
-    pub(crate) rows: Matrix,
-    pub(crate) later: Vec<Echelon>,
+    pub(crate) reduced: Echelon,
+    pub(crate) free: Vec<usize>,
 }
 
-/// Whether a row is in a row space.
-fn is_inside(alloc: Global, f: Field, space: &Echelon, row: &[u8]) -> Result<bool, NoMemory>
-    requires field { space.now.f ≡ f }
-    requires columns { space.now.cols ≡ length row.now }
-    requires each { AreVectors f (length row.now) space.now.rows }
-    requires digits { AreDigits f row.now }
-    ensures { IfOk result (λ b. b ≡ is_in_span f (length row.now) space.now.rows row.now) }
-{
-    let mut one = Matrix::new(alloc, f, row.len());
-    one.push_row(alloc, row)?;
-    let outside = space.first_outside(alloc, &one)?;
-    Ok(outside.is_none())
-}
-
-/// The rows cut off after n digits.
-fn cut(alloc: Global, rows: &Matrix, n: usize) -> Result<Matrix, NoMemory>
-    requires { n ≤ rows.now.cols }
-    ensures { IfOk result (λ m. m ≡ record { f = rows.now.f; cols = n; rows = map (take n) rows.now.rows }) }
-{
-    let mut short = Matrix::new(alloc, rows.field(), n);
-    for i in 0..rows.rows() {
-        short.push_row(alloc, &rows.row(i)[..n])?;
-    }
-    Ok(short)
-}
-
-/// Whether column k is a pivot column of the rows.
-fn is_pivot(alloc: Global, rows: &Matrix, k: usize) -> Result<bool, NoMemory>
-    requires place { k < rows.now.cols }
-    requires small { rows.now.cols ≤ 18 }
-    ensures { IfOk result (λ b. b ≡ basis_words.is_pivot rows.now.f rows.now.rows k) }
-{
-    let short = cut(alloc, rows, k + 1)?;
-    let space = Echelon::of(alloc, &short)?;
-    let last = unit(alloc, k + 1, k)?;
-    let inside = is_inside(alloc, rows.field(), &space, &last)?;
-    Ok(inside)
-}
-
-/// The rows, and then the unit vectors at their free columns.
-fn completed(alloc: Global, f: Field, r: usize, g: &Gen) -> Result<Matrix, NoMemory>
+/// The rows of g, of r digits, beside the negative unit matrix.
+fn augmented(alloc: Global, f: Field, r: usize, g: &Gen) -> Result<Matrix, NoMemory>
     requires small { r ≤ 18 }
     requires rows { AreVectors f r g.now }
-    ensures { IfOk result (λ m. m ≡ record { f = f; cols = r; rows = basis_words.completed f r g.now }) }
+    ensures { IfOk result (λ m. m ≡ record { f = f; cols = r + length g.now; rows = augmented f g.now }) }
 {
-    let given = rows_of(alloc, f, r, g)?;
-    let mut basis = rows_of(alloc, f, r, g)?;
-    for k in 0..r {
-        if !is_pivot(alloc, &given, k)? {
-            let row = unit(alloc, r, k)?;
-            basis.push_row(alloc, &row)?;
+    let t = g.rows() as usize;
+    let mut rows = Matrix::new(alloc, f, r + t);
+    for k in 0..g.rows() {
+        let mut row = digits_of(alloc, &g.row(k))?;
+        row.extend_from_slice(&negative_unit(alloc, f, t, k as usize)?)?;
+        rows.push_row(alloc, &row)?;
+    }
+    Ok(rows)
+}
+
+/// Whether column k is one of the leads.
+fn is_lead(leads: &[usize], k: usize) -> bool
+    ensures { IsTrue result ↔ Contains leads.now k }
+{
+    leads.contains(&k)
+}
+
+/// The columns of the space of the join that are none of the leads.
+fn free_columns(alloc: Global, op: &Op, leads: &[usize]) -> Result<Vec<usize>, NoMemory>
+    requires { (k : ℕ) → k < row_length op.now.op → (is_pivot op.now.f op.now.op.g3 k ≡ true) ↔ Contains leads.now k }
+    ensures { IfOk result (λ free. free.items ≡ free_columns op.now.f (row_length op.now.op) op.now.op.g3) }
+{
+    let mut free = Vec::new(alloc);
+    for k in 0..dimension(op) {
+        if !is_lead(leads, k) {
+            free.push(k)?;
         }
     }
-    Ok(basis)
-}
-
-/// The span of the rows from place `from` on.
-fn span_from(alloc: Global, rows: &Matrix, from: usize) -> Result<Echelon, NoMemory>
-    requires { from ≤ length rows.now.rows }
-    ensures { IfOk result (λ e. e ≡ record { f = rows.now.f; cols = rows.now.cols; rows = reduced_basis rows.now.f rows.now.cols (drop from rows.now.rows) }) }
-{
-    let mut later = Matrix::new(alloc, rows.field(), rows.cols());
-    for i in from..rows.rows() {
-        later.push_row(alloc, rows.row(i))?;
-    }
-    Echelon::of(alloc, &later)
-}
-
-/// The span of the rows after each row.
-fn later_spans(alloc: Global, rows: &Matrix) -> Result<Vec<Echelon>, NoMemory>
-    ensures { IfOk result (λ v. v.items ≡ map (space_after rows.now) (range_with_len 0 (length rows.now.rows))) }
-{
-    let mut later = Vec::new(alloc);
-    for i in 0..rows.rows() {
-        later.push(span_from(alloc, rows, i + 1)?)?;
-    }
-    Ok(later)
+    Ok(free)
 }
 
 /// The dimension of the space of a join.
@@ -122,66 +77,38 @@ impl Basis {
     pub(crate) fn of(alloc: Global, op: &Op) -> Result<Basis, NoMemory>
         ensures { IfOk result (λ b. IsBasisOf op.now b) }
     {
-        let r = dimension(op);
-        let rows = completed(alloc, op.field(), r, op.g3())?;
-        let later = later_spans(alloc, &rows)?;
-        Ok(Basis { rows, later })
+        let rows = augmented(alloc, op.field(), dimension(op), op.g3())?;
+        let reduced = Echelon::of(alloc, &rows)?;
+        let free = free_columns(alloc, op, reduced.leads())?;
+        Ok(Basis { reduced, free })
     }
 }
 
-/// x less c times v.
-fn minus_multiple(alloc: Global, f: Field, x: &[u8], c: u8, v: &[u8]) -> Result<Vec<u8>, NoMemory>
-    requires same_length { length v.now ≡ length x.now }
-    requires factor { c < order f }
-    requires digits_x { AreDigits f x.now }
-    requires digits_v { AreDigits f v.now }
-    ensures { IfOk result (λ rest. (rest.items ≡ basis_words.minus_multiple f x.now c v.now) × IsVector f (length x.now) rest.items) }
+/// The digits from place r on, and then those at some places.
+fn read_off(alloc: Global, digits: &[u8], r: usize, places: &[usize]) -> Result<Vec<u8>, NoMemory>
+    requires start { r ≤ length digits.now }
+    requires places { All (λ k. k < length digits.now) places.now }
+    ensures { IfOk result (λ v. v.items ≡ drop r digits.now ++ map (λ k. slice_index digits.now k) places.now) }
 {
-    let mut rest = x.to_vec(alloc)?;
-    lanes::axpy(f, f.neg(c), v, &mut rest);
-    Ok(rest)
-}
-
-/// The last digit c such that x less c times v is in the space, or 0.
-fn first_coordinate(
-    alloc: Global,
-    f: Field,
-    v: &[u8],
-    space: &Echelon,
-    x: &[u8],
-) -> Result<u8, NoMemory>
-    requires field { space.now.f ≡ f }
-    requires columns { space.now.cols ≡ length x.now }
-    requires each { AreVectors f (length x.now) space.now.rows }
-    requires same_length { length v.now ≡ length x.now }
-    requires digits_x { AreDigits f x.now }
-    requires digits_v { AreDigits f v.now }
-    ensures { IfOk result (λ c. c ≡ basis_words.digit_below f (length x.now) space.now.rows v.now x.now (order f)) }
-{
-    for c in (0..f.q()).rev() {
-        let rest = minus_multiple(alloc, f, x, c, v)?;
-        if is_inside(alloc, f, space, &rest)? {
-            return Ok(c);
-        }
+    let mut read = digits[r..].to_vec(alloc)?;
+    for k in places {
+        read.push(digits[*k])?;
     }
-    Ok(0)
+    Ok(read)
 }
 
-/// The coordinates of a vector of the space of the join.
-fn coordinates(alloc: Global, op: &Op, basis: &Basis, x: &[u8]) -> Result<Vec<u8>, NoMemory>
+/// The digits that a vector has in the join: what is left of it at the free columns of G3, where its part along the rows of G3 is taken
+/// away, comes after the coefficients of this part.
+fn digits(alloc: Global, op: &Op, basis: &Basis, v: &Vector) -> Result<Vec<u8>, NoMemory>
     requires basis { IsBasisOf op.now basis.now }
-    requires vector { IsVector op.now.f (row_length op.now.op) x.now }
-    ensures { IfOk result (λ digits. digits.items ≡ basis_words.coordinates op.now.f (row_length op.now.op) basis.now.rows.rows x.now) }
+    requires vector { IsVector op.now.f (row_length op.now.op) v.now }
+    ensures { IfOk result (λ digits. digits.items ≡ column_digits op.now.f op.now.op v.now) }
 {
-    let f = op.field();
-    let mut rest = x.to_vec(alloc)?;
-    let mut digits = Vec::new(alloc);
-    for i in 0..basis.rows.rows() {
-        let c = first_coordinate(alloc, f, basis.rows.row(i), &basis.later[i], &rest)?;
-        digits.push(c)?;
-        rest = minus_multiple(alloc, f, &rest, c, basis.rows.row(i))?;
-    }
-    Ok(digits)
+    let r = dimension(op);
+    let mut row = digits_of(alloc, v)?;
+    row.resize(r + op.t3() as usize, 0)?;
+    let rest = basis.reduced.residue(alloc, &row)?;
+    read_off(alloc, &rest, r, &basis.free)
 }
 
 /// The digits that each row of g has in the join.
@@ -197,9 +124,8 @@ pub(crate) fn digits_in_join(
 {
     let mut rows = Matrix::new(alloc, op.field(), dimension(op));
     for k in 0..g.rows() {
-        let x = digits_of(alloc, &g.row(k))?;
-        let digits = coordinates(alloc, op, basis, &x)?;
-        rows.push_row(alloc, &digits)?;
+        let row = digits(alloc, op, basis, &g.row(k))?;
+        rows.push_row(alloc, &row)?;
     }
     Ok(rows)
 }

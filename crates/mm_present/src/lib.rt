@@ -4,7 +4,6 @@
 mod collecting;
 mod comparison;
 mod coordinates;
-mod elements;
 mod independence;
 mod known;
 mod named;

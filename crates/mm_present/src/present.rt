@@ -4,17 +4,14 @@ ghost use Rattle.std.specs.Prelude.{◌≡◌, ◌++◌, IfOk, map, reverse};
 ghost use Rattle.mm_field.specs.Vectors.{AreVectors};
 ghost use Rattle.mm_logic.specs.Tree as shapes;
 ghost use Rattle.mm_tree.specs.NamedTree.{shape, element_names};
-ghost use Rattle.mm_tree.specs.Nodes.{field_of};
 ghost use Rattle.mm_present.specs.Comparing.{present_rows};
 
 use crate::Named;
 use crate::collecting::collect;
-use crate::elements::elements;
 use crate::known::KnownOperators;
 use mm_base::NoMemory;
-use mm_field::Field;
 use mm_matrix::Matrix;
-use mm_tree::{Node, Tree};
+use mm_tree::Tree;
 use std::alloc::Global;
 
 /// Moves the rows after those of the matrix, the last first.
@@ -30,27 +27,16 @@ fn stack(alloc: Global, mut matrix: Matrix, mut rows: Vec<Vec<u8>>) -> Result<Ma
     Ok(matrix)
 }
 
-/// The field of the first leaf or operator.
-#[tactic(auto, unfolding(mm_tree::specs::Nodes::field_of))]
-fn field_of(node: &Node) -> Field
-    ensures { result ≡ field_of node.now }
-{
-    match node {
-        Node::Leaf(leaf) => leaf.field,
-        Node::Join(_, op, _, _) => op.field(),
-    }
-}
-
 /// The matrix of the tree: its boundary rows and then its internal rows, over its elements in leaf order.
 pub fn matrix_of(alloc: Global, tree: &Tree) -> Result<Named, NoMemory>
     ensures names { IfOk result (λ n. n.names ≡ element_names tree.now.tree) }
     ensures rows { IfOk result (λ n. n.rows ≡ record { f = tree.now.f; cols = shapes.size (shape tree.now.tree); rows = present_rows tree.now.f tree.now.tree }) }
 {
-    let names = elements(alloc, tree)?;
+    let names = tree.elements(alloc)?;
     let mut internal = Vec::new(alloc);
     let boundary = collect(
         alloc,
-        field_of(tree.node()),
+        tree.field(),
         tree.node(),
         names.len(),
         0,

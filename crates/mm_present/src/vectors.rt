@@ -1,13 +1,13 @@
-//! Vectors and lists of vectors as rows of a matrix.
+//! Vectors as digits.
 
 ghost use Rattle.std.specs.Prelude.{◌≡◌, ◌<◌, IfOk};
-ghost use Rattle.mm_field.specs.Vectors.{AreVectors};
+ghost use Rattle.mm_field.specs.Digits.{negative};
+ghost use Rattle.mm_field.specs.Vectors.{multiple};
 ghost use Rattle.mm_linear.specs.Coordinates.{unit};
 
 use mm_base::NoMemory;
-use mm_field::Field;
-use mm_matrix::Matrix;
-use mm_space::{Gen, Vector};
+use mm_field::{Field, lanes};
+use mm_space::Vector;
 use std::alloc::Global;
 
 /// The digits of a vector.
@@ -21,25 +21,27 @@ pub(crate) fn digits_of(alloc: Global, v: &Vector) -> Result<Vec<u8>, NoMemory>
     Ok(digits)
 }
 
-/// The matrix whose rows are these vectors of r digits.
-pub(crate) fn rows_of(alloc: Global, f: Field, r: usize, g: &Gen) -> Result<Matrix, NoMemory>
-    requires { AreVectors f r g.now }
-    ensures { IfOk result (λ m. m ≡ record { f = f; cols = r; rows = g.now }) }
-{
-    let mut rows = Matrix::new(alloc, f, r);
-    for k in 0..g.rows() {
-        let digits = digits_of(alloc, &g.row(k))?;
-        rows.push_row(alloc, &digits)?;
-    }
-    Ok(rows)
-}
-
 /// The vector of r digits with 1 at place k and 0 elsewhere.
-pub(crate) fn unit(alloc: Global, r: usize, k: usize) -> Result<Vec<u8>, NoMemory>
+fn unit(alloc: Global, r: usize, k: usize) -> Result<Vec<u8>, NoMemory>
     requires { k < r }
     ensures { IfOk result (λ digits. digits.items ≡ unit r k) }
 {
     let mut digits = vec![in alloc; 0; r]?;
     digits[k] = 1;
+    Ok(digits)
+}
+
+/// The negative of the unit vector of t digits with 1 at place k.
+pub(crate) fn negative_unit(
+    alloc: Global,
+    f: Field,
+    t: usize,
+    k: usize,
+) -> Result<Vec<u8>, NoMemory>
+    requires { k < t }
+    ensures { IfOk result (λ digits. digits.items ≡ multiple f (negative f 1) (unit t k)) }
+{
+    let mut digits = unit(alloc, t, k)?;
+    lanes::scale(f, f.neg(1), &mut digits);
     Ok(digits)
 }

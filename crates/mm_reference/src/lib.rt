@@ -23,10 +23,3 @@ pub use tree::{Op, Tree};
 pub use types::type_of;
 pub use validity::{decide, is_valid};
 pub use values::Value;
-
-#[cfg(test)]
-mod least_tests;
-#[cfg(test)]
-mod tests;
-#[cfg(test)]
-mod type_tests;

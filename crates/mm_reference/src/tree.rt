@@ -74,9 +74,7 @@ pub fn push_zeros(out: &mut Vec<u8>, n: usize) -> Result<(), AllocError>
 fn zero_vector(alloc: Global, n: usize) -> Result<Vec<u8>, AllocError>
     ensures { IfOk result (λ v. v.items ≡ vectors.zeros n) }
 {
-    let mut zeros = Vec::new(alloc);
-    push_zeros(&mut zeros, n)?;
-    Ok(zeros)
+    Ok(vec![in alloc; 0; n]?)
 }
 
 /// The vector of r digits with 1 at place k and 0 elsewhere.
@@ -84,9 +82,8 @@ fn unit(alloc: Global, r: usize, k: usize) -> Result<Vec<u8>, AllocError>
     requires { k < r }
     ensures { IfOk result (λ v. v.items ≡ coordinates_spec.unit r k) }
 {
-    let mut digits = zero_vector(alloc, k)?;
-    digits.push(1)?;
-    push_zeros(&mut digits, r - k - 1)?;
+    let mut digits = zero_vector(alloc, r)?;
+    digits[k] = 1;
     Ok(digits)
 }
 

@@ -11,4 +11,12 @@ mod jobs;
 #[cfg(test)]
 mod large;
 #[cfg(test)]
+mod reference;
+#[cfg(test)]
 mod running;
+#[cfg(test)]
+mod slots;
+#[cfg(test)]
+mod texts;
+#[cfg(test)]
+mod types;

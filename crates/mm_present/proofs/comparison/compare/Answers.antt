@@ -8,7 +8,7 @@ use Rattle.mm_matrix.specs.MatrixValue.{MatrixValue}
 use Rattle.mm_tree.specs.NamedTree.{element_names}
 use Rattle.mm_present.specs.Comparing.{Named, compared, compared_rows, digit_at, first_missing}
 use Rattle.mm_present.proofs.CompareLemmas.{given_missing, element_missing, same_elements, places_below}
-use Rattle.mm_present.proofs.NameLemmas.{count_elements}
+use Rattle.mm_tree.proofs.ElementLemmas.{count_elements}
 use Rattle.mm_present.proofs.comparison.compare.Goals as goal
 
 pub set_of-requires-2 : goal.set_of-requires-2

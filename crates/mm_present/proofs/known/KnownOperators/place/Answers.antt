@@ -4,7 +4,7 @@ use Rattle.mm_ops.specs.OpValue.{OpValue}
 use Rattle.mm_ops.specs.contracts.op.OpPartialEq.TheImpl.{eq-value}
 use Rattle.mm_present.specs.Known.{AreDigitsOf}
 use Rattle.mm_present.specs.declared.known.JoinDigits.{JoinDigits}
-use Rattle.mm_present.proofs.OperatorEquality.{op_same}
+use Rattle.mm_ops.proofs.OpEquality.{op_same}
 use Rattle.mm_present.proofs.KnownLemmas.{found_right, tried_right, added_at, some_same}
 use Rattle.mm_present.proofs.known.KnownOperators.place.Goals as goal
 
