@@ -39,7 +39,7 @@ none_missing (name ∷ names) others e = go (is_one_of name others) refl (none_m
         let found : Some name ≡ None = sym (ap (λ c. cond (not c) (Some name) (first_missing names others)) p) ∙ e in cc
 
 -- and where each is among the others, none is missing
-none_is_missing : (names others : List (List ℕ)) → AreAmong names others → first_missing names others ≡ None
+pub none_is_missing : (names others : List (List ℕ)) → AreAmong names others → first_missing names others ≡ None
 none_is_missing [] others h = refl
 none_is_missing (name ∷ names) others h =
     ap (λ c. cond (not c) (Some name) (first_missing names others)) (All-head (λ name. is_one_of name others ≡ true) name names h)
