@@ -30,7 +30,7 @@ use Rattle.mm_present.specs.Comparing.{Named, compared, compared_rows, first_mis
 use Rattle.mm_present.specs.declared.verdict.Verdict.{Verdict}
 use Rattle.mm_present.specs.declared.verdict.Verdict.TheVariants as verdict
 use Rattle.mm_present.proofs.CompareLemmas.{as_many, outside_is}
-use Rattle.mm_present.proofs.NameLemmas.{different_elements}
+use Rattle.mm_tree.proofs.ElementLemmas.{different_elements}
 use Rattle.mm_tree.specs.NamedTree.{Tree, element_names, is_one_of}
 
 -- ---- names
