@@ -18,7 +18,7 @@ use Rattle.mm_logic.specs.Tree.{IsValid}
 use Rattle.mm_present.specs.Comparing.{compared, compared_rows, digit_at, first_missing, first_outside, in_order, present_rows, verdict_of, verdict_of_rows}
 use Rattle.mm_present.specs.declared.verdict.Verdict.{Verdict}
 use Rattle.mm_present.specs.declared.verdict.Verdict.TheVariants as verdict
-use Rattle.mm_present.proofs.NameLemmas.{count_elements}
+use Rattle.mm_tree.proofs.ElementLemmas.{count_elements}
 use Rattle.mm_present.proofs.CompareLemmas.{as_many, placed_vector, position_none}
 use Rattle.mm_present.proofs.TreeRows.{rows_are}
 use Rattle.mm_tree.specs.NamedTree.{Tree, shape, element_names, is_one_of}
@@ -39,7 +39,7 @@ none_missing (name ∷ names) others e = go (is_one_of name others) refl (none_m
         let found : Some name ≡ None = sym (ap (λ c. cond (not c) (Some name) (first_missing names others)) p) ∙ e in cc
 
 -- and where each is among the others, none is missing
-none_is_missing : (names others : List (List ℕ)) → AreAmong names others → first_missing names others ≡ None
+pub none_is_missing : (names others : List (List ℕ)) → AreAmong names others → first_missing names others ≡ None
 none_is_missing [] others h = refl
 none_is_missing (name ∷ names) others h =
     ap (λ c. cond (not c) (Some name) (first_missing names others)) (All-head (λ name. is_one_of name others ≡ true) name names h)

@@ -34,7 +34,7 @@ use Rattle.mm_logic_laws.proofs.MeaningLemmas.{meaning_decided}
 use Rattle.mm_present.specs.Comparing.{compared}
 use Rattle.mm_present.specs.declared.verdict.Verdict.{Verdict}
 use Rattle.mm_present.specs.declared.verdict.Verdict.TheVariants as verdict
-use Rattle.mm_present.proofs.NameLemmas.{different_elements}
+use Rattle.mm_tree.proofs.ElementLemmas.{different_elements}
 use Rattle.mm_tree.specs.NamedTree.{Tree, shape, weights}
 
 -- ---- answers

@@ -34,7 +34,7 @@ use Rattle.mm_lines.specs.declared.line.Line.{Line}
 use Rattle.mm_present.specs.Comparing.{Named, compared}
 use Rattle.mm_present.specs.declared.verdict.Verdict.{Verdict}
 use Rattle.mm_present.specs.declared.verdict.Verdict.TheVariants as verdict
-use Rattle.mm_present.proofs.NameLemmas.{different_elements}
+use Rattle.mm_tree.proofs.ElementLemmas.{different_elements}
 use Rattle.mm_tree.proofs.BuilderLemmas.{none_distinct}
 use Rattle.mm_tree.specs.ValidTree.{IsValidTree}
 

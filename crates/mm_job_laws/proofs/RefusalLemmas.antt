@@ -14,7 +14,7 @@ use Rattle.mm_lines.specs.declared.line.Line.{Line}
 use Rattle.mm_present.specs.Comparing.{compared}
 use Rattle.mm_present.specs.declared.verdict.Verdict.{Verdict}
 use Rattle.mm_present.specs.declared.verdict.Verdict.TheVariants as verdict
-use Rattle.mm_present.proofs.NameLemmas.{different_elements}
+use Rattle.mm_tree.proofs.ElementLemmas.{different_elements}
 use Rattle.mm_job_text.specs.Checks.{◌>>=◌, require}
 use Rattle.mm_job_text.specs.Readers.{Reading, Read, Refused, Short, and_then, now, whole}
 use Rattle.mm_job_text.specs.declared.refusal.Refusal.{Refusal}

@@ -1,9 +1,9 @@
 -- What the lines of a job's output mean: the answer to the query, and whether given rows agree with the tree.
-use Rattle.std.specs.Prelude.{◌≡◌, ◌↔◌, ◌⊎◌, ◌≤◌, ◌<◌, ℕ, ◌+◌, Bool, true, false, List, [], ◌∷◌, ◌++◌, length, map, get_or, codes, Option, Some, None, Ok}
+use Rattle.std.specs.Prelude.{◌≡◌, ◌↔◌, ◌⊎◌, ◌≤◌, ℕ, ◌+◌, Bool, true, false, List, [], ◌∷◌, ◌++◌, length, map, codes, Option, Some, None, Ok}
 use Rattle.std.specs.List.{IsDistinct}
 use Rattle.std.specs.Str.{bytes_eq}
 use Rattle.mm_field.specs.declared.Field.{Field}
-use Rattle.mm_field.specs.Vectors.{AreVectors, InSpan, IsWithin}
+use Rattle.mm_field.specs.Vectors.{AreVectors, IsWithin}
 use Rattle.mm_formula.specs.Scope.{IsScoped, slotted}
 use Rattle.mm_formula.specs.Syntax.{Syntax}
 use Rattle.mm_formula.specs.Variables.{is_var}
@@ -33,6 +33,7 @@ use Rattle.mm_logic.specs.Least.{IsLeastSet, Satisfies}
 use Rattle.mm_logic.specs.Marks.{unmarked}
 use Rattle.mm_logic.specs.Meaning.{Holds}
 use Rattle.mm_logic.specs.Tree.{IsValid, size}
+use Rattle.mm_matrix.specs.Outside.{IsFirstOutside}
 use Rattle.mm_present.specs.Comparing.{Named, compared, in_order, present_rows}
 use Rattle.mm_present.specs.declared.verdict.Verdict.{Verdict}
 use Rattle.mm_present.specs.declared.verdict.Verdict.TheVariants as verdict
@@ -135,13 +136,9 @@ pub record IsFirstMissing (names others : List (List ℕ)) (name : List ℕ) : T
   pub among : AreAmong before others
   pub missing : is_one_of name others ≡ false
 
--- Row number i, counted from 1, is the first of some rows that is outside the row space of others: those before it are inside.
-pub record IsFirstOutside (f : Field) (n : ℕ) (rows others : List (List ℕ)) (i : ℕ) : Type 0 where
-  pub k : ℕ
-  pub number : i ≡ k + 1
-  pub place : k < length rows
-  pub inside : (j : ℕ) → j < k → InSpan f n others (get_or rows j [])
-  pub outside : InSpan f n others (get_or rows k []) → ⊥
+-- row number i of the others, counted from 1, is the first of them that is outside the row space of some rows
+abbrev pub IsFirstRowOutside : Field → ℕ → (rows others : List (List ℕ)) → ℕ → Type 0
+IsFirstRowOutside f n rows others i = (k : ℕ) × (i ≡ k + 1) × IsFirstOutside f n rows others k
 
 -- the given rows, columns matched by name with the tree's
 abbrev pub matched_rows : Named → Tree → List (List ℕ)
@@ -161,19 +158,19 @@ IsMeant f given tree (verdict.Elements name) =
     ⊎ (AreAmong given.names (element_names tree) × IsFirstMissing (element_names tree) given.names name)
 IsMeant f given tree (verdict.Given i) =
     HaveSameElements given tree
-    × IsFirstOutside f (length (element_names tree)) (matched_rows given tree) (present_rows f tree) i
+    × IsFirstRowOutside f (length (element_names tree)) (present_rows f tree) (matched_rows given tree) i
 IsMeant f given tree (verdict.Present j) =
     HaveSameElements given tree
     × IsWithin f (length (element_names tree)) (matched_rows given tree) (present_rows f tree)
-    × IsFirstOutside f (length (element_names tree)) (present_rows f tree) (matched_rows given tree) j
+    × IsFirstRowOutside f (length (element_names tree)) (matched_rows given tree) (present_rows f tree) j
 
 -- Given rows with a digit for each of their names, the names all different, and a tree with a valid shape and different elements are
--- compared by the verdict that is meant.
+-- compared by exactly the verdict that is meant.
 abbrev pub VerdictsAreMeant : Type 0
 VerdictsAreMeant =
     (f : Field) (given : Named) (tree : Tree) → IsValid f (shape tree) → IsDistinct bytes_eq (element_names tree)
     → IsDistinct bytes_eq given.names → AreVectors f (length given.names) given.rows
-    → IsMeant f given tree (compared f given tree)
+    → (v : Verdict) → (compared f given tree ≡ v) ↔ IsMeant f given tree v
 
 -- what a text's output is for a verdict on its rows that is no agreement: one line, which names the difference
 abbrev pub IsRefusalFor : Verdict → List OutputLine → Type 0
@@ -187,7 +184,7 @@ abbrev pub OutputNamesTheDifference : Type 0
 OutputNamesTheDifference =
     (limit : ℕ) (text : List ℕ) (rest : List Line) (r : Line) (p : Parts) (query : Query) → parts job_rules (lines text) ≡ Read p (r ∷ rest)
     → whole (query_line Spelled) r ≡ Ok query → is_built query ≡ true
-    → (v : Verdict) × IsMeant p.0.f (given_of p) p.1 v × IsRefusalFor v (output_lines text limit)
+    → (v : Verdict) → IsMeant p.0.f (given_of p) p.1 v → IsRefusalFor v (output_lines text limit)
 
 -- ---- items
 

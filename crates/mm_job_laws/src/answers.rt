@@ -23,7 +23,7 @@ pub fn the_output_begins_with_the_answer()
     ensures { OutputBeginsWithAnswer }
 {}
 
-/// Given rows and a tree are compared by the verdict that is meant: they agree, or their first difference.
+/// Given rows and a tree are compared by exactly the verdict that is meant: they agree, or it is their first difference.
 pub fn verdicts_are_meant()
     ensures { VerdictsAreMeant }
 {}
