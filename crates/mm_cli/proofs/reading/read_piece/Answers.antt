@@ -43,7 +43,7 @@ returns-in-Ok-More-clause-came g c =
     let text : c.feed.new.self.text ≡ j.text ++ piece =
     c.in-Ok-More.ensures.text (ap (λ p. more_ok p) c.in-Ok-More.field-0-is) ∙ whole_piece j.text piece whole in
     let far = further j.limit g.start.left (g.S.Source.left c.args.source.now) (g.S.Source.left c.read.new.self) g.start.held (g.K.Sink.held c.args.sink.now) (g.K.Sink.held c.feed.new.out)
-      j.text piece c.requires.far c.in-Ok.ensures.bytes.0 room c.in-Ok-More.ensures.writes.wrote in
+    j.text piece c.requires.far c.in-Ok.ensures.bytes.0 room c.in-Ok-More.ensures.writes.wrote in
     record {
       count = ap length text ∙ length-append j.text piece ∙ ap (λ k. length j.text + k) count;
       some = some;
