@@ -1,4 +1,4 @@
 pub mod HeaderLemmas
 pub mod KeptLemmas
-mod FormulaLemmas
+pub mod FormulaLemmas
 mod TreeLineLemmas

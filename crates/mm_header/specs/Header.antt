@@ -4,8 +4,8 @@ use Rattle.std.specs.declared.result.Result.{Result}
 use Rattle.mm_field.specs.declared.Field.{Field}
 use Rattle.mm_header.specs.declared.rules.HeaderRules.{HeaderRules}
 use Rattle.mm_present.specs.Comparing.{compared}
-use Rattle.mm_present.specs.declared.verdict.Verdict.{Verdict}
-use Rattle.mm_present.specs.declared.verdict.Verdict.TheVariants as verdict
+use Rattle.mm_present.specs.declared.comparison.Verdict.{Verdict}
+use Rattle.mm_present.specs.declared.comparison.Verdict.TheVariants as verdict
 use Rattle.mm_ops.specs.Tables.{OperatorList as NamedOps}
 use Rattle.mm_tree.specs.NamedTree.{Tree}
 use Rattle.mm_job_text.specs.Arguments.{begins}

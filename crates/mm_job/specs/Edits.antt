@@ -1,21 +1,24 @@
 -- What each item of a job does: the tree after it, or its verdict, or the first of its refusals.
-use Rattle.std.specs.Prelude.{ℕ, ◌+◌, ◌-◌, ℤ, nat_abs, Bool, true, false, nat_le, List, [], length, take, codes, Option, Some, None, Ok, Err, find, if◌then◌else◌, ◌==◌}
+use Rattle.std.specs.Prelude.{ℕ, ◌+◌, ◌-◌, ℤ, nat_abs, Bool, true, false, nat_le, List, [], length, take, codes, Option, Some, None, Ok, Err, if◌then◌else◌}
 use Rattle.std.specs.declared.result.Result.{Result}
 use Rattle.mm_base.specs.Names.{is_name}
 use Rattle.mm_field.specs.declared.Field.{Field}
 use Rattle.mm_header.specs.Rules.{job_rules}
 use Rattle.mm_job.specs.Header.{Session}
 use Rattle.mm_present.specs.Comparing.{Named, compared}
-use Rattle.mm_present.specs.declared.verdict.Verdict.{Verdict}
-use Rattle.mm_present.specs.declared.verdict.Verdict.TheVariants as verdict
+use Rattle.mm_present.specs.declared.comparison.Verdict.{Verdict}
+use Rattle.mm_present.specs.declared.comparison.Verdict.TheVariants as verdict
 use Rattle.mm_job.specs.NotBuilt.{not_built, may_be_over, over_limit}
 use Rattle.mm_lines.specs.Numbers.{u32_of, i64_of}
 use Rattle.mm_lines.specs.declared.line.Line.{Line}
-use Rattle.mm_tree.specs.NamedTree.{Tree, boundary, depth, leaf_names, element_names, is_one_of, nodes}
-use Rattle.mm_tree.specs.ValidTree.{most_leaves, most_depth, most_weight}
-use Rattle.mm_tree.specs.Paths.{Path, path_to, node_at, with_node, names_outside, with_weight}
+use Rattle.mm_tree.specs.NamedTree.{Tree, element_names, is_one_of, nodes}
+use Rattle.mm_tree.specs.ValidTree.{most_weight}
+use Rattle.mm_tree.specs.Replacing.{replace_fault}
+use Rattle.mm_tree.specs.declared.replace.ReplaceFault.{ReplaceFault}
+use Rattle.mm_tree.specs.declared.replace.ReplaceFault.TheVariants as fault
+use Rattle.mm_tree.specs.Paths.{Path, path_to, with_node, with_weight}
 use Rattle.mm_job_text.specs.Arguments.{args, begins, is_word, two_of}
-use Rattle.mm_job_text.specs.Checks.{◌>>=◌, ◌>>◌, require, found, within}
+use Rattle.mm_job_text.specs.Checks.{◌>>=◌, ◌>>◌, require, found, unless, within}
 use Rattle.mm_job_text.specs.HeaderLines.{elements_line, row_line}
 use Rattle.mm_job_text.specs.Readers.{Reading, Read, Refused, Short, each, line, whole}
 use Rattle.mm_job_text.specs.Readers.{◌>>=◌ as ◌>>>=◌}
@@ -60,9 +63,14 @@ read_whole (Read x rest) = Ok x
 read_whole (Refused e) = Err e
 read_whole Short = Err refusal.Unfinished
 
-abbrev pub none_taken : Option (List ℕ) → Result (Unit {0}) Refusal
-none_taken None = Ok tt
-none_taken (Some name) = Err (refusal.Taken name)
+-- The refusal of an exchange by a block whose `end` has this number, by what is at fault with it.
+abbrev pub exchange_refusal : ℕ → Option ReplaceFault → Option Refusal
+exchange_refusal n None = None
+exchange_refusal n (Some (fault.Boundary old new)) = Some (refusal.Boundary old new)
+exchange_refusal n (Some (fault.NameTaken name)) = Some (refusal.Taken name)
+exchange_refusal n (Some fault.TooManyLeaves) = Some (refusal.Over limit.Leaves n)
+exchange_refusal n (Some fault.TooDeep) = Some (refusal.Over limit.Depth n)
+exchange_refusal n (Some fault.NoMemory) = None
 
 -- The name and the number that the line gives.
 unfoldable pub replace_fields : Line → Result (List ℕ × ℕ) Refusal
@@ -72,20 +80,17 @@ replace_fields r = do
   up ← found (u32_of t.1) (refusal.Syntax r.number)
   Ok (t.0, up)
 
--- The way to the node so many steps above the leaf of a name.
+-- The path to the node so many steps above the leaf of a name.
 unfoldable pub path_above : Tree → List ℕ → ℕ → Result Path Refusal
 path_above tree name up = do
   path ← found (path_to name tree) (refusal.Unknown name)
   require (nat_le up (length path)) (refusal.NoNode name up)
   Ok (take (length path - up) path)
 
--- The tree with the node at the end of a way exchanged, by a block whose `end` has this number.
+-- The tree with the node at the end of a path exchanged, by a block whose `end` has this number.
 unfoldable pub exchanged : Tree → Path → Tree → ℕ → Result Applied Refusal
 exchanged tree path new n = do
-  require (boundary (node_at tree path) == boundary new) (refusal.Boundary (boundary (node_at tree path)) (boundary new))
-  none_taken (find (λ name. is_one_of name (names_outside tree path)) (leaf_names new))
-  within (length (leaf_names (with_node tree path new))) most_leaves limit.Leaves n
-  within (depth (with_node tree path new)) most_depth limit.Depth n
+  unless (exchange_refusal n (replace_fault tree path new))
   Ok (record { tree = with_node tree path new; cost = length path + nodes new })
 
 -- A new subtree for the node so many steps above a leaf, by the lines of its block.

@@ -1,4 +1,8 @@
 //! Jobs: a text of a matroid, a query and edits, and the answers to them, written while the text comes.
+//!
+//! Begin with [`Job`], which is fed a text in any pieces: after each piece it has written what the closed lines of the text so far
+//! cause, and `finish` writes the rest. What a text causes is its output, a definition; how far a job has come is a state that is
+//! changed line by line, and a line costs the time of its own tokens and of its answer. A job keeps its text and its present tree.
 #![tactic(auto)]
 
 mod block;
@@ -14,8 +18,6 @@ mod stage;
 mod state;
 mod truth;
 
-pub use block::Block;
-pub use items::{ItemStep, take_item_line};
 pub use job::Job;
 pub use laws::{
     a_refused_header_ends_a_job, an_ended_job_is_final, the_output_grows_with_the_text,
@@ -23,5 +25,3 @@ pub use laws::{
 };
 pub use output_line::OutputLine;
 pub use progress::{JobFault, Progress};
-pub use session::{Session, answer, start};
-pub use stage::{LineStep, Stage, take_line};

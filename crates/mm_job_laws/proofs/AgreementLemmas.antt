@@ -16,8 +16,8 @@ use Rattle.mm_logic.specs.PresentMatrix.{internal, matrix_row}
 use Rattle.mm_logic.specs.Tree as shapes
 use Rattle.mm_logic.specs.Tree.{IsValid}
 use Rattle.mm_present.specs.Comparing.{compared, compared_rows, digit_at, first_missing, first_outside, in_order, present_rows, verdict_of, verdict_of_rows}
-use Rattle.mm_present.specs.declared.verdict.Verdict.{Verdict}
-use Rattle.mm_present.specs.declared.verdict.Verdict.TheVariants as verdict
+use Rattle.mm_present.specs.declared.comparison.Verdict.{Verdict}
+use Rattle.mm_present.specs.declared.comparison.Verdict.TheVariants as verdict
 use Rattle.mm_tree.proofs.ElementLemmas.{count_elements}
 use Rattle.mm_present.proofs.CompareLemmas.{as_many, placed_vector, position_none}
 use Rattle.mm_present.proofs.TreeRows.{rows_are}

@@ -32,8 +32,8 @@ use Rattle.mm_logic.specs.Tree.{IsValid, size}
 use Rattle.mm_logic_laws.proofs.LeastLemmas.{least-set_meant}
 use Rattle.mm_logic_laws.proofs.MeaningLemmas.{meaning_decided}
 use Rattle.mm_present.specs.Comparing.{compared}
-use Rattle.mm_present.specs.declared.verdict.Verdict.{Verdict}
-use Rattle.mm_present.specs.declared.verdict.Verdict.TheVariants as verdict
+use Rattle.mm_present.specs.declared.comparison.Verdict.{Verdict}
+use Rattle.mm_present.specs.declared.comparison.Verdict.TheVariants as verdict
 use Rattle.mm_tree.proofs.ElementLemmas.{different_elements}
 use Rattle.mm_tree.specs.NamedTree.{Tree, shape, weights}
 

@@ -32,8 +32,8 @@ use Rattle.mm_lines.specs.Lines.{lines}
 use Rattle.mm_lines.specs.Tokens.{tokens}
 use Rattle.mm_lines.specs.declared.line.Line.{Line}
 use Rattle.mm_present.specs.Comparing.{Named, compared}
-use Rattle.mm_present.specs.declared.verdict.Verdict.{Verdict}
-use Rattle.mm_present.specs.declared.verdict.Verdict.TheVariants as verdict
+use Rattle.mm_present.specs.declared.comparison.Verdict.{Verdict}
+use Rattle.mm_present.specs.declared.comparison.Verdict.TheVariants as verdict
 use Rattle.mm_tree.proofs.ElementLemmas.{different_elements}
 use Rattle.mm_tree.proofs.BuilderLemmas.{none_distinct}
 use Rattle.mm_tree.specs.ValidTree.{IsValidTree}

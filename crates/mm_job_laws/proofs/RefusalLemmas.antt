@@ -12,8 +12,8 @@ use Rattle.mm_job.specs.Output.{Ending, More, Ended, Over, ending, lines_after_h
 use Rattle.mm_lines.specs.Lines.{lines}
 use Rattle.mm_lines.specs.declared.line.Line.{Line}
 use Rattle.mm_present.specs.Comparing.{compared}
-use Rattle.mm_present.specs.declared.verdict.Verdict.{Verdict}
-use Rattle.mm_present.specs.declared.verdict.Verdict.TheVariants as verdict
+use Rattle.mm_present.specs.declared.comparison.Verdict.{Verdict}
+use Rattle.mm_present.specs.declared.comparison.Verdict.TheVariants as verdict
 use Rattle.mm_tree.proofs.ElementLemmas.{different_elements}
 use Rattle.mm_job_text.specs.Checks.{◌>>=◌, require}
 use Rattle.mm_job_text.specs.Readers.{Reading, Read, Refused, Short, and_then, now, whole}

@@ -27,8 +27,8 @@ use Rattle.mm_linear.specs.Decide.{is_in_span}
 use Rattle.mm_linear.proofs.MeetTest.{is_in_span_decides}
 use Rattle.mm_matrix.specs.Outside.{IsFirstOutside}
 use Rattle.mm_present.specs.Comparing.{Named, compared, compared_rows, first_missing, first_outside, present_rows, verdict_of, verdict_of_rows}
-use Rattle.mm_present.specs.declared.verdict.Verdict.{Verdict}
-use Rattle.mm_present.specs.declared.verdict.Verdict.TheVariants as verdict
+use Rattle.mm_present.specs.declared.comparison.Verdict.{Verdict}
+use Rattle.mm_present.specs.declared.comparison.Verdict.TheVariants as verdict
 use Rattle.mm_present.proofs.CompareLemmas.{as_many, outside_is}
 use Rattle.mm_tree.proofs.ElementLemmas.{different_elements}
 use Rattle.mm_tree.specs.NamedTree.{Tree, element_names, is_one_of}

@@ -6,7 +6,7 @@ use Rattle.mm_field.specs.declared.Field.{Field}
 use Rattle.mm_field.specs.Vectors.{AreVectors, SameRowSpace}
 use Rattle.mm_logic.specs.Tree.{IsValid}
 use Rattle.mm_present.specs.Comparing.{Named, compared, in_order, present_rows}
-use Rattle.mm_present.specs.declared.verdict.Verdict.TheVariants as verdict
+use Rattle.mm_present.specs.declared.comparison.Verdict.TheVariants as verdict
 use Rattle.mm_tree.specs.NamedTree.{Tree, shape, element_names, is_one_of}
 
 -- each of some names is among others

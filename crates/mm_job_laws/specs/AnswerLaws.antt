@@ -35,8 +35,8 @@ use Rattle.mm_logic.specs.Meaning.{Holds}
 use Rattle.mm_logic.specs.Tree.{IsValid, size}
 use Rattle.mm_matrix.specs.Outside.{IsFirstOutside}
 use Rattle.mm_present.specs.Comparing.{Named, compared, in_order, present_rows}
-use Rattle.mm_present.specs.declared.verdict.Verdict.{Verdict}
-use Rattle.mm_present.specs.declared.verdict.Verdict.TheVariants as verdict
+use Rattle.mm_present.specs.declared.comparison.Verdict.{Verdict}
+use Rattle.mm_present.specs.declared.comparison.Verdict.TheVariants as verdict
 use Rattle.mm_tree.specs.NamedTree.{Tree, shape, element_names, is_one_of, weights}
 use Rattle.mm_tree.specs.ValidTree.{IsValidTree}
 

@@ -30,8 +30,8 @@ use Rattle.mm_present.specs.Comparing.{Named, compared, compared_rows, digit_at,
 use Rattle.mm_present.specs.Ordering.{IsPlaceBelow}
 use Rattle.mm_present.proofs.RangeLemmas.{map_each}
 use Rattle.mm_present.proofs.TreeRows.{digit_of}
-use Rattle.mm_present.specs.declared.verdict.Verdict.{Verdict}
-use Rattle.mm_present.specs.declared.verdict.Verdict.TheVariants as verdict
+use Rattle.mm_present.specs.declared.comparison.Verdict.{Verdict}
+use Rattle.mm_present.specs.declared.comparison.Verdict.TheVariants as verdict
 
 -- ---- names
 

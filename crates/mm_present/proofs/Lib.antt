@@ -1,6 +1,6 @@
 pub mod RowFormLemmas
-mod SideLemmas
-mod KnownLemmas
+mod JoinRowLemmas
+mod JoinCacheLemmas
 mod GrowLemmas
 mod CoordinateLemmas
 mod RangeLemmas

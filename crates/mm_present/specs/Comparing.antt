@@ -6,8 +6,8 @@ use Rattle.mm_field.specs.declared.Field.{Field}
 use Rattle.mm_linear.specs.Decide.{is_in_span}
 use Rattle.mm_logic.specs.PresentMatrix.{matrix_row, internal}
 use Rattle.mm_logic.specs.Tree as shapes
-use Rattle.mm_present.specs.declared.verdict.Verdict.{Verdict}
-use Rattle.mm_present.specs.declared.verdict.Verdict.TheVariants as verdict
+use Rattle.mm_present.specs.declared.comparison.Verdict.{Verdict}
+use Rattle.mm_present.specs.declared.comparison.Verdict.TheVariants as verdict
 use Rattle.mm_tree.specs.NamedTree.{Tree, shape, element_names, is_one_of}
 
 -- Names, and rows with a digit for each of them.

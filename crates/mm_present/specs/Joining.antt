@@ -8,7 +8,7 @@ use Rattle.mm_logic.specs.Tree.{Tree, boundary}
 use Rattle.mm_matrix.specs.MatrixValue.{MatrixValue}
 use Rattle.mm_ops.specs.OpValue.{OpValue}
 use Rattle.mm_present.specs.RowForm.{row_of, first_rows, in_join}
-use Rattle.mm_present.specs.declared.sides.Side.{Side}
+use Rattle.mm_present.specs.declared.join_rows.Side.{Side}
 
 -- a row with zeros before and after it
 abbrev pub widened : ℕ → ℕ → List ℕ → List ℕ

@@ -2,5 +2,5 @@ pub mod RowForm
 pub mod Comparing
 pub mod Bases
 pub mod Joining
-pub mod Known
+pub mod JoinCache
 pub mod Ordering

@@ -9,8 +9,8 @@ ghost use Rattle.mm_field.specs.Vectors.{AreDigits};
 ghost use Rattle.mm_logic.specs.Operator.{row_length};
 ghost use Rattle.mm_present.specs.Joining.{ArePart, IsSide, boundary_rows, placed_rows, join_row, joined_row, widened};
 
-use crate::known::KnownOperators;
-use crate::sides::{Side, join_row};
+use crate::join_cache::KnownOperators;
+use crate::join_rows::{Side, join_row};
 use mm_base::NoMemory;
 use mm_field::Field;
 use mm_matrix::Matrix;

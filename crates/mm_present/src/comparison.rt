@@ -7,12 +7,25 @@ ghost use Rattle.mm_present.specs.Comparing.{compared, compared_rows, digit_at, 
 ghost use Rattle.mm_present.specs.Ordering.{IsPlaceBelow};
 
 use crate::present::matrix_of;
-use crate::{Named, Verdict};
+use crate::Named;
 use indexmap::IndexSet;
 use mm_base::{Name, NameList, NoMemory};
 use mm_matrix::{Echelon, Matrix};
 use mm_tree::Tree;
 use std::alloc::Global;
+
+/// How a given matrix and the matrix of a tree compare: the first difference, or none.
+#[derive(Clone, Copy, Debug, PartialEq, Eq)]
+pub enum Verdict {
+    /// Both have the same elements and the same row space.
+    Same,
+    /// The first given name that is no element of the tree, else the first element, in leaf order, that is not given.
+    Elements(Name),
+    /// The least given row, counted from 1, that is outside the row space of the tree's matrix.
+    Given(usize),
+    /// The least row of the tree's matrix, counted from 1, that is outside the row space of the given rows.
+    Present(usize),
+}
 
 /// The set of different names, in their order.
 fn set_of(alloc: Global, names: &NameList) -> Result<IndexSet<Name>, NoMemory>

@@ -5,18 +5,14 @@ mod collecting;
 mod comparison;
 mod coordinates;
 mod independence;
-mod known;
-mod named;
+mod join_cache;
+mod join_rows;
 mod present;
-mod sides;
 mod vectors;
-mod verdict;
 
-pub use comparison::compare;
+pub use comparison::{Verdict, compare};
 pub use independence::is_independent;
-pub use named::Named;
-pub use present::matrix_of;
-pub use verdict::Verdict;
+pub use present::{Named, matrix_of};
 
 #[cfg(test)]
 mod tests;

@@ -6,13 +6,21 @@ ghost use Rattle.mm_logic.specs.Tree as shapes;
 ghost use Rattle.mm_tree.specs.NamedTree.{shape, element_names};
 ghost use Rattle.mm_present.specs.Comparing.{present_rows};
 
-use crate::Named;
 use crate::collecting::collect;
-use crate::known::KnownOperators;
-use mm_base::NoMemory;
+use crate::join_cache::KnownOperators;
+use mm_base::{NameList, NoMemory};
 use mm_matrix::Matrix;
 use mm_tree::Tree;
 use std::alloc::Global;
+
+/// A matrix with a name for each of its columns, in their order.
+#[derive(Drop)]
+pub struct Named {
+    /// The names of the columns.
+    pub names: NameList,
+    /// The rows, with one digit for each name.
+    pub rows: Matrix,
+}
 
 /// Moves the rows after those of the matrix, the last first.
 fn stack(alloc: Global, mut matrix: Matrix, mut rows: Vec<Vec<u8>>) -> Result<Matrix, NoMemory>

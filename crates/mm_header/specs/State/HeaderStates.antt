@@ -11,7 +11,7 @@ use Rattle.mm_header.specs.declared.state.HeaderState.{HeaderState}
 use Rattle.mm_header.specs.declared.state.HeaderState.TheVariants as state
 use Rattle.mm_header.specs.declared.state.HeaderStep.{HeaderStep}
 use Rattle.mm_header.specs.declared.state.HeaderStep.TheVariants as step
-use Rattle.mm_present.specs.declared.named.Named.{Named}
+use Rattle.mm_present.specs.declared.present.Named.{Named}
 use Rattle.mm_tree.specs.Building.{AreOver}
 use Rattle.mm_job_text.specs.Readers.{Reader, now}
 

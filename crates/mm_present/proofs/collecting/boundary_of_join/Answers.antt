@@ -6,7 +6,7 @@ use Rattle.mm_present.specs.Joining.{join_row}
 use Rattle.mm_present.proofs.GrowLemmas.{row_pushed, row_fits}
 use Rattle.std.proofs.Common.{append-nil}
 use Rattle.std.proofs.lemmas.List.FromFn.{map-range_with_len_more}
-use Rattle.mm_present.proofs.SideLemmas.{join_row_vector}
+use Rattle.mm_present.proofs.JoinRowLemmas.{join_row_vector}
 use Rattle.mm_present.proofs.collecting.boundary_of_join.Goals as goal
 
 pub push_row-requires : goal.push_row-requires

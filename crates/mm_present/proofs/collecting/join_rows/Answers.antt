@@ -4,7 +4,7 @@ use Rattle.std.specs.List.{range_with_len}
 use Rattle.mm_matrix.specs.MatrixValue.{MatrixValue}
 use Rattle.mm_present.specs.Joining.{join_row, joined_row, widened}
 use Rattle.mm_present.proofs.RangeLemmas.{same_range}
-use Rattle.mm_present.proofs.SideLemmas.{side_is, join_row_is}
+use Rattle.mm_present.proofs.JoinRowLemmas.{side_is, join_row_is}
 use Rattle.mm_present.proofs.NodeLemmas.{always_ok}
 use Rattle.mm_present.proofs.collecting.join_rows.Goals as goal
 

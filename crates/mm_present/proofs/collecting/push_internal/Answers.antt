@@ -3,7 +3,7 @@ use Rattle.std.specs.List.{range_with_len}
 use Rattle.mm_present.specs.Joining.{join_row, widened}
 use Rattle.std.proofs.Common.{append-nil}
 use Rattle.std.proofs.lemmas.List.{map_push}
-use Rattle.mm_present.proofs.SideLemmas.{internal_step}
+use Rattle.mm_present.proofs.JoinRowLemmas.{internal_step}
 use Rattle.mm_present.proofs.collecting.push_internal.Goals as goal
 
 pub loop-k-init : goal.loop-k-init

@@ -1,7 +1,7 @@
 use Rattle.std.proofs.Common.{sym, subst}
 use Rattle.mm_field.specs.Vectors.{AreVectors}
 use Rattle.mm_logic.specs.Operator.{row_length}
-use Rattle.mm_present.proofs.known.JoinDigits.of.Goals as goal
+use Rattle.mm_present.proofs.join_cache.JoinDigits.of.Goals as goal
 
 pub digits_in_join-requires-clause-rows : goal.digits_in_join-requires-clause-rows
 digits_in_join-requires-clause-rows c =

@@ -1,7 +1,7 @@
 use Rattle.std.proofs.Common.{◌≡◌, ◌≤◌, length, drop}
 use Rattle.mm_field.specs.Vectors.{combination}
 use Rattle.mm_present.specs.RowForm.{row_of}
-use Rattle.mm_present.proofs.sides.add_side.Given as goal
+use Rattle.mm_present.proofs.join_rows.add_side.Given as goal
 
 abbrev pub invariant-loop-i : goal.invariant-loop-i
 invariant-loop-i l = record {

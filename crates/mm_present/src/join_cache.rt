@@ -2,7 +2,7 @@
 
 ghost use Rattle.std.specs.Prelude.{◌<◌, IfOk};
 ghost use Rattle.indexmap.specs.IndexMap.{index_map_len};
-ghost use Rattle.mm_present.specs.Known.{AreDigitsOf, AreKnown, IsKnownAt};
+ghost use Rattle.mm_present.specs.JoinCache.{AreDigitsOf, AreKnown, IsKnownAt};
 
 use crate::coordinates::{Basis, digits_in_join};
 use indexmap::IndexMap;

@@ -1,8 +1,8 @@
 use Rattle.std.proofs.Common.{◌+◌, ◌≡◌, take, drop, subst, sym, ap, ◌∙◌}
 use Rattle.mm_field.specs.Vectors.{zeros}
 use Rattle.mm_present.specs.Joining.{side_row, with_digits}
-use Rattle.mm_present.proofs.SideLemmas.{both_put, side_vector, zeros_after}
-use Rattle.mm_present.proofs.sides.put_sides.Goals as goal
+use Rattle.mm_present.proofs.JoinRowLemmas.{both_put, side_vector, zeros_after}
+use Rattle.mm_present.proofs.join_rows.put_sides.Goals as goal
 
 pub put_side-requires-2-clause-zero : goal.put_side-requires-2-clause-zero
 put_side-requires-2-clause-zero c =

@@ -13,7 +13,7 @@ use Rattle.mm_matrix.specs.MatrixValue.{MatrixValue}
 use Rattle.mm_ops.specs.OpValue.{OpValue}
 use Rattle.mm_present.specs.RowForm.{row_of, in_join}
 use Rattle.mm_present.specs.Joining.{ArePart, IsSide, side_row, join_row, joined_row, widened, with_digits}
-use Rattle.mm_present.specs.declared.sides.Side.{Side}
+use Rattle.mm_present.specs.declared.join_rows.Side.{Side}
 
 -- ---- the rows of a join
 

@@ -4,7 +4,7 @@ use Rattle.std.specs.Map.{values_of}
 use Rattle.mm_logic.specs.Operator.{row_length}
 use Rattle.mm_ops.specs.OpValue.{OpValue}
 use Rattle.mm_present.specs.RowForm.{in_join}
-use Rattle.mm_present.specs.declared.known.JoinDigits.{JoinDigits}
+use Rattle.mm_present.specs.declared.join_cache.JoinDigits.{JoinDigits}
 
 -- the digits that the rows of G1 and of G2 have in a join by the operator
 pub record AreDigitsOf (op : OpValue) (digits : JoinDigits) : Type 0 where

@@ -2,11 +2,11 @@ use Rattle.std.proofs.Common.{◌≡◌, List, Some, slice_get, sym, ap₂, subs
 use Rattle.std.specs.Map.{values_of}
 use Rattle.mm_ops.specs.OpValue.{OpValue}
 use Rattle.mm_ops.specs.contracts.op.OpPartialEq.TheImpl.{eq-value}
-use Rattle.mm_present.specs.Known.{AreDigitsOf}
-use Rattle.mm_present.specs.declared.known.JoinDigits.{JoinDigits}
+use Rattle.mm_present.specs.JoinCache.{AreDigitsOf}
+use Rattle.mm_present.specs.declared.join_cache.JoinDigits.{JoinDigits}
 use Rattle.mm_ops.proofs.OpEquality.{op_same}
-use Rattle.mm_present.proofs.KnownLemmas.{found_right, tried_right, added_at, some_same}
-use Rattle.mm_present.proofs.known.KnownOperators.place.Goals as goal
+use Rattle.mm_present.proofs.JoinCacheLemmas.{found_right, tried_right, added_at, some_same}
+use Rattle.mm_present.proofs.join_cache.KnownOperators.place.Goals as goal
 
 pub returns-in-Some-clause-known : goal.returns-in-Some-clause-known
 returns-in-Some-clause-known c digits e =
