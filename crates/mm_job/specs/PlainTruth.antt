@@ -5,7 +5,7 @@ use Rattle.mm_formula.specs.Syntax.{Syntax}
 use Rattle.mm_formula.specs.Syntax.Syntax.{Const, Ind, Not, Bin}
 use Rattle.mm_logic.specs.Formula.{connect}
 
--- By truth tables, where it is told whether all elements are independent. The empty set is.
+-- By truth tables, where it is known whether all elements are independent. The empty set is.
 abbrev pub plain_truth : Bool → Syntax → Bool
 plain_truth all (Const b) = b
 plain_truth all (Ind t) = if t.whole then all else true
