@@ -9,6 +9,3 @@ mod orthogonality;
 pub use echelon::Echelon;
 pub use matrix::Matrix;
 pub use orthogonality::orthogonal;
-
-#[cfg(test)]
-mod tests;

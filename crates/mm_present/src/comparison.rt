@@ -6,8 +6,8 @@ ghost use Rattle.std.specs.Str.{bytes_eq};
 ghost use Rattle.mm_present.specs.Comparing.{compared, compared_rows, digit_at, first_missing, first_outside};
 ghost use Rattle.mm_present.specs.Ordering.{IsPlaceBelow};
 
-use crate::present::matrix_of;
 use crate::Named;
+use crate::present::matrix_of;
 use indexmap::IndexSet;
 use mm_base::{Name, NameList, NoMemory};
 use mm_matrix::{Echelon, Matrix};

@@ -13,6 +13,3 @@ mod vectors;
 pub use comparison::{Verdict, compare};
 pub use independence::is_independent;
 pub use present::{Named, matrix_of};
-
-#[cfg(test)]
-mod tests;

@@ -22,6 +22,3 @@ const MAX_LEAVES: usize = 8192;
 
 /// The most joins above a leaf.
 const MAX_DEPTH: u32 = 1023;
-
-#[cfg(test)]
-mod tests;

@@ -18,8 +18,14 @@ mod job_text;
 #[cfg(test)]
 mod lines;
 #[cfg(test)]
+mod matrix;
+#[cfg(test)]
 mod ops;
+#[cfg(test)]
+mod present;
 #[cfg(test)]
 mod space;
 #[cfg(test)]
 mod states;
+#[cfg(test)]
+mod tree;

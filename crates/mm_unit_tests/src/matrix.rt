@@ -1,7 +1,7 @@
 //! Matrices with known row spaces.
 
-use crate::{Echelon, Matrix, orthogonal};
 use mm_field::Field;
+use mm_matrix::{Echelon, Matrix, orthogonal};
 use std::test::Fail;
 
 #[test]

@@ -4,11 +4,11 @@ ghost use Rattle.mm_field.specs.declared.Field.TheVariants.{Two};
 ghost use Rattle.mm_tree.specs.Building.{AreOver};
 ghost use Rattle.std.specs.Prelude.{IfOk, IfSome, ◌≡◌};
 
-use crate::{Named, Verdict, compare, is_independent, matrix_of};
 use mm_base::{Name, NameList};
 use mm_field::Field;
 use mm_matrix::Matrix;
 use mm_ops::{Op, OpTable};
+use mm_present::{Named, Verdict, compare, is_independent, matrix_of};
 use mm_space::{Gen, Vector};
 use mm_tree::{Builder, Tree};
 use std::alloc::Global;

@@ -4,11 +4,11 @@ ghost use Rattle.mm_field.specs.declared.Field.TheVariants.{Two};
 ghost use Rattle.mm_tree.specs.Building.{AreOver};
 ghost use Rattle.std.specs.Prelude.{IfSome, ◌≡◌};
 
-use crate::{BuildFault, Builder, Tree, write_tree};
 use mm_base::Name;
 use mm_field::Field;
 use mm_ops::{Op, OpTable};
 use mm_space::{Gen, Vector};
+use mm_tree::{BuildFault, Builder, Tree, write_tree};
 use std::alloc::Global;
 use std::test::Fail;
 
