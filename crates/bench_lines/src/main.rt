@@ -7,14 +7,11 @@ ghost use Rattle.mm_lines.specs.Lines.{most_bytes};
 
 use anyhow::{Result, bail};
 use mm_base::{Source, StdSource};
-use mm_lines::Framer;
+use mm_lines::{Framer, MOST_BYTES};
 use std::alloc::Global;
 
 /// How many bytes one read asks for.
 const PIECE: usize = 65_536;
-
-/// The most bytes that a framer takes.
-const MOST_BYTES: usize = 67_108_864;
 
 /// A framer of the whole text of a source, up to the bytes that are used of a text.
 fn framed<S: Source>(alloc: Global, source: &mut S) -> Result<Framer> {

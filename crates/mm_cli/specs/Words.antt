@@ -7,12 +7,13 @@ use Rattle.mm_field.specs.declared.Field.{Field}
 use Rattle.mm_lines.specs.Numbers.{number_of}
 use Rattle.mm_space.specs.DigitTexts.{vectors_of}
 use Rattle.mm_job_text.specs.HeaderLines.{field_of}
+use Rattle.mm_cli.specs.declared.words.TheConstants.{MOST_LIMIT}
 use Rattle.mm_cli.specs.declared.words.Command.{Command}
 use Rattle.mm_cli.specs.declared.words.Command.TheVariants.{Run, NotBuilt}
 
 -- The greatest limit on sizes, which holds where none is given.
 abbrev pub most_limit : ℕ
-most_limit = 4194304
+most_limit = MOST_LIMIT
 
 abbrev pub within : ℕ → ℕ → Option ℕ → Option ℕ
 within least most None = None

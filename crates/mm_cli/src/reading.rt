@@ -8,11 +8,12 @@ ghost use Rattle.mm_cli.specs.Runs.{Ran, cut, most_asked};
 
 use mm_base::{Sink, Source, Status, Steps};
 use mm_job::{Job, JobFault, Progress};
+use mm_lines::MOST_BYTES;
 use std::alloc::Global;
 use std::sync::ledger::Ledger;
 
-/// The bytes that are used of a job, and one more.
-const MOST_BYTES: usize = 67_108_865;
+/// The bytes that are used of a job, and one more: where it comes, the job is too long.
+const MOST_TAKEN: usize = MOST_BYTES + 1;
 
 /// How many bytes one read asks for at most.
 const PIECE: usize = 8192;
@@ -95,8 +96,8 @@ fn read_pieces<S: Source, K: Sink, L: Ledger>(
 {
     let mut buffer = [0u8; PIECE];
     let mut taken = 0;
-    'pieces: while taken < MOST_BYTES {
-        let want = PIECE.min(MOST_BYTES - taken);
+    'pieces: while taken < MOST_TAKEN {
+        let want = PIECE.min(MOST_TAKEN - taken);
         match read_piece(alloc, job, &mut buffer[..want], source, sink, steps) {
             ReadStep::End => return None,
             ReadStep::More(count) => taken += count,

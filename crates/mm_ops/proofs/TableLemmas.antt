@@ -7,6 +7,7 @@ use Rattle.mm_linear.proofs.SpaceLemmas.{false_true}
 use Rattle.std.specs.Map.{lookup}
 use Rattle.std.specs.Option.{is_some}
 use Rattle.mm_base.proofs.NameLemmas.{name_eq}
+use Rattle.mm_ops.specs.declared.table.TheConstants.{MAX_OPS}
 use Rattle.mm_ops.specs.OpValue.{OpValue}
 use Rattle.mm_ops.specs.Tables.{OperatorList, NamesDiffer, op_named, has_name, refusal_of}
 use Rattle.mm_ops.specs.declared.table.OpTableFault.TheVariants.{NameTaken, Full}
@@ -32,7 +33,7 @@ has_name_is name (entry ∷ entries) = go (bytes_eq name entry.0) (has_name_is n
 
 pub taken_refused : (name : List ℕ) (entries : OperatorList) → is_some (op_named name entries) ≡ true → refusal_of name entries ≡ Some NameTaken
 taken_refused name entries e =
-    ap (λ (t : Bool). if t then Some NameTaken else (if nat_le 4096 (length entries) then Some Full else None))
+    ap (λ (t : Bool). if t then Some NameTaken else (if nat_le MAX_OPS (length entries) then Some Full else None))
     (sym (has_name_is name entries) ∙ e)
 
 pub full_refused : (name : List ℕ) (entries : OperatorList) → is_some (op_named name entries) ≡ false → 4096 ≤ length entries →
@@ -53,7 +54,7 @@ absent (Some x) e = cc
 
 -- a name that is not refused is new
 pub new_name : (name : List ℕ) (entries : OperatorList) → refusal_of name entries ≡ None → has_name name entries ≡ false
-new_name name entries e = go (has_name name entries) (nat_le 4096 (length entries)) e
+new_name name entries e = go (has_name name entries) (nat_le MAX_OPS (length entries)) e
   where
     go : (t f : Bool) → (if t then Some NameTaken else (if f then Some Full else None)) ≡ None → t ≡ false
     go true f e = cc

@@ -3,6 +3,7 @@ use Rattle.std.specs.Prelude.{ℕ, ◌≡◌, nat_le, Bool, false, List, [], ◌
 use Rattle.std.specs.List.{list_any}
 use Rattle.std.specs.Str.{bytes_eq}
 use Rattle.std.specs.declared.result.Result.{Result}
+use Rattle.mm_ops.specs.declared.table.TheConstants.{MAX_OPS}
 use Rattle.mm_ops.specs.OpValue.{OpValue}
 use Rattle.mm_ops.specs.declared.table.OpTableFault.{OpTableFault}
 use Rattle.mm_ops.specs.declared.table.OpTableFault.TheVariants.{NameTaken, Full, NoMemory}
@@ -26,7 +27,7 @@ NamesDiffer (entry ∷ entries) = (has_name entry.0 entries ≡ false) × NamesD
 
 -- Why an operator is not added: its name is there, or 4096 operators are.
 abbrev pub refusal_of : List ℕ → OperatorList → Option OpTableFault
-refusal_of name entries = if has_name name entries then Some NameTaken else (if nat_le 4096 (length entries) then Some Full else None)
+refusal_of name entries = if has_name name entries then Some NameTaken else (if nat_le MAX_OPS (length entries) then Some Full else None)
 
 -- what adding an operator answers, by its refusal; memory may be missing at any time
 abbrev pub Answers : Result (Unit {0}) OpTableFault → Option OpTableFault → Type 0

@@ -5,14 +5,15 @@ use Rattle.std.specs.Str.{bytes_eq}
 use Rattle.mm_base.specs.Names.{is_name}
 use Rattle.mm_field.specs.declared.Field.{Field}
 use Rattle.mm_logic.specs.Tree.{IsValid}
+use Rattle.mm_tree.specs.declared.TheConstants.{MAX_LEAVES, MAX_DEPTH}
 use Rattle.mm_tree.specs.NamedTree.{Tree, shape, node_names, leaf_names, weights, depth}
 
 -- the most leaves of a tree, the most joins above a leaf, and the greatest weight
 abbrev pub most_leaves : ℕ
-most_leaves = 8192
+most_leaves = MAX_LEAVES
 
 abbrev pub most_depth : ℕ
-most_depth = 1023
+most_depth = MAX_DEPTH
 
 abbrev pub most_weight : ℕ
 most_weight = 1000000000000
