@@ -7,3 +7,4 @@ pub mod QueryLemmas
 pub mod AnswerLemmas
 pub mod VerdictLemmas
 pub mod ItemLemmas
+pub mod NodeLemmas

@@ -17,6 +17,7 @@ use Rattle.mm_formula_text.specs.Tokens.{lexemes, tokens}
 use Rattle.mm_formula_text.proofs.ReadsAllLemmas.{run_reads}
 use Rattle.mm_formula_text.proofs.ReadsOnlyLemmas.{run_derives}
 use Rattle.mm_formula_text.proofs.TextLemmas.{sorted}
+use Rattle.mm_header.proofs.FormulaLemmas.{derived_formula}
 use Rattle.mm_header.specs.Queries.{Query, first_of, formula_of, least_query, most_formula, query_line, query_of, scope_refusal, set_variable_of, spelled_query}
 use Rattle.mm_header.specs.Queries.Question.{Spelled}
 use Rattle.mm_job_laws.specs.AnswerLaws.{QueryLinesGiveWhatTheySpell, Seeks, Spells, formula_text}
@@ -145,13 +146,6 @@ unfolding lexemes finish
 some_text [] F h = absurd (none-some F (run_reads [] F h.derived))
 some_text (b ∷ bs) F h = le-leb 1 (length (b ∷ bs)) (omega arith)
 
-formula_is : (text : List ℕ) (F : Syntax) → IsTextOf F text → formula_of text ≡ Some F
-unfolding formula_of
-formula_is text F h =
-    ap (λ (c : Bool). if c || ends_in_blank text then None else run start (tokens text)) h.first
-    ∙ ap (λ (c : Bool). if c then None else run start (tokens text)) h.last
-    ∙ run_reads (tokens text) F h.derived
-
 without_fault : (o : Option (List ℕ)) (deep large : Bool) → o ≡ None → deep ≡ false → large ≡ false → fault_of o deep large ≡ None
 without_fault None false false e p q = refl
 without_fault None false true e p q = let x : true ≡ false = q in cc
@@ -166,7 +160,7 @@ text_gives : (n : ℕ) (sought : Option (List ℕ)) (text : List ℕ) (F : Synta
     query_of n sought text ≡ Ok (record { sought = sought; formula = F })
 unfolding query_of
 text_gives n sought text F short derived scoped =
-    rw (some_text text F derived, le-leb _ _ short, formula_is text F derived, scoped_without_fault F sought scoped) refl
+    rw (some_text text F derived, le-leb _ _ short, derived_formula F text derived, scoped_without_fault F sought scoped) refl
 
 pub other_word : (a b : List ℕ) (ts : List (List ℕ)) → bytes_eq a b ≡ false → first_is b ts ≡ true → first_is a ts ≡ false
 other_word a b [] e h = refl

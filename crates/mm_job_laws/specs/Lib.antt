@@ -1,3 +1,4 @@
 pub mod Agreement
 pub mod HeaderLaws
 pub mod AnswerLaws
+pub mod TreeLaws

@@ -1,4 +1,4 @@
-//! The laws of the header of a job, proved over its definitions alone: when it is refused for its rows. Each law is the contract
+//! The laws of a job, proved over its definitions alone: those of its header, of its answers and of its tree. Each law is the contract
 //! of a function that does nothing.
 #![tactic(auto)]
 
@@ -6,12 +6,14 @@ ghost use Rattle.mm_job_laws.specs.Agreement.{SameExactlyWhereTheyAgree};
 ghost use Rattle.mm_job_laws.specs.HeaderLaws.{LinesAreSound, OutputRefusesRowsExactly, RowsAreRefusedExactly};
 
 mod answers;
+mod trees;
 
 pub use answers::{
     answer_lines_are_answers, checks_are_answered, headers_give_sessions,
     items_keep_sessions_sound, query_lines_give_what_they_spell, the_output_answers_checks,
     the_output_begins_with_the_answer, the_output_names_the_difference, verdicts_are_meant,
 };
+pub use trees::{elements_are_named_and_weighted, subtrees_are_of_nodes, weights_of_sets_fit};
 
 /// Given rows and a tree are compared as the same exactly where each has the elements and the row space of the other.
 pub fn compared_says_same_exactly_where_they_agree()
