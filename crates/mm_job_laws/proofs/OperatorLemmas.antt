@@ -1,5 +1,5 @@
 -- The operators that are read are valid.
-use Rattle.std.proofs.Common.{All, ℕ, ◌+◌, ◌-◌, ◌<◌, ◌≡◌, Bool, true, false, ◌&&◌, Option, Some, None, List, [], ◌∷◌, ◌++◌, length, map, refl, subst}
+use Rattle.std.proofs.Common.{All, ℕ, ◌<◌, ◌≡◌, Bool, true, false, ◌&&◌, Option, Some, None, List, [], ◌∷◌, ◌++◌, length, map, refl, subst}
 use Rattle.std.specs.Prelude.{codes, nat_le, IfOk, Ok, if◌then◌else◌}
 use Rattle.std.specs.List.{AllByRecursion, list_all}
 use Rattle.std.specs.Str.{bytes_eq}
