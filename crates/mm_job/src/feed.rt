@@ -4,6 +4,7 @@ ghost use Rattle.mm_lines.specs.Lines.{most_bytes, settled};
 ghost use Rattle.mm_lines.specs.declared.line.Line.{Line as LineOf};
 ghost use Rattle.std.specs.Io.KnownBytes.{Appends};
 ghost use Rattle.mm_base.specs.Causes.{GrowsByFront};
+ghost use Rattle.mm_job.specs.Calls.{Writes};
 ghost use Rattle.mm_job.specs.State.Blocks.{written};
 ghost use Rattle.mm_job.specs.State.JobStates.{come_to, end_by, status_at};
 ghost use Rattle.mm_job.specs.State.Feeding.{Fed, IsWithin, left};
@@ -198,9 +199,8 @@ pub fn take_last<K: Sink>(
     requires stream { IsRead framer.old }
     requires size { length framer.old.bytes + length piece.now ≤ most_bytes }
     ensures status { IfOk result (λ s. s ≡ status_of (written_lines limit Over (settled (framer.old.bytes ++ piece.now)))) }
-    ensures wrote { OnOk result (Grew (K.held out.old) (K.held out.new) (written_at More limit framer.old.bytes) (written_at Over limit (framer.old.bytes ++ piece.now))) }
-    ensures front { OnErr result (GrewByFront (K.held out.old) (K.held out.new) (written_at More limit framer.old.bytes) (written_at Over limit (framer.old.bytes ++ piece.now))) }
-    ensures cause { HasJobCause (K.faults out.old) (K.faults out.new) result }
+    ensures writes { Writes K.held K.faults out.old out.new
+        (written_at More limit framer.old.bytes) (written_at Over limit (framer.old.bytes ++ piece.now)) result }
 {
     take_piece(alloc, limit, state, framer, piece, out)?;
     end_state(alloc, state, true, out)
@@ -218,9 +218,7 @@ pub fn take_text_end<K: Sink>(
     requires stream { IsRead framer.old }
     requires size { length framer.old.bytes ≤ most_bytes }
     ensures status { IfOk result (λ s. s ≡ end_of framer.old.bytes limit) }
-    ensures wrote { OnOk result (Grew (K.held out.old) (K.held out.new) (written_at More limit framer.old.bytes) (output framer.old.bytes limit)) }
-    ensures front { OnErr result (GrewByFront (K.held out.old) (K.held out.new) (written_at More limit framer.old.bytes) (output framer.old.bytes limit)) }
-    ensures cause { HasJobCause (K.faults out.old) (K.faults out.new) result }
+    ensures writes { Writes K.held K.faults out.old out.new (written_at More limit framer.old.bytes) (output framer.old.bytes limit) result }
 {
     framer.finish();
     feed_lines(alloc, limit, state, framer, out)?;

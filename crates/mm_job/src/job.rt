@@ -69,9 +69,8 @@ impl Job {
         ensures text { result ≡ Ok More → self.new.text ≡ self.old.text ++ piece.now }
         ensures limit { self.new.limit ≡ self.old.limit }
         ensures live { self.new.live ≡ goes_on result }
-        ensures wrote { OnOk result (Grew (K.held out.old) (K.held out.new) (settled_output self.old.text self.old.limit) (settled_output (self.old.text ++ piece.now) self.old.limit)) }
-        ensures front { OnErr result (GrewByFront (K.held out.old) (K.held out.new) (settled_output self.old.text self.old.limit) (settled_output (self.old.text ++ piece.now) self.old.limit)) }
-        ensures cause { HasJobCause (K.faults out.old) (K.faults out.new) result }
+        ensures writes { Writes K.held K.faults out.old out.new
+            (settled_output self.old.text self.old.limit) (settled_output (self.old.text ++ piece.now) self.old.limit) result }
     {
         self.live = false;
         take_piece(
@@ -102,9 +101,8 @@ impl Job {
         ensures progress { IfOk result (λ p. p ≡ Ended (status_of (written_lines self.old.limit Over (settled (self.old.text ++ piece.now))))) }
         ensures limit { self.new.limit ≡ self.old.limit }
         ensures live { self.new.live ≡ false }
-        ensures wrote { OnOk result (Grew (K.held out.old) (K.held out.new) (settled_output self.old.text self.old.limit) (written_at Over self.old.limit (self.old.text ++ piece.now))) }
-        ensures front { OnErr result (GrewByFront (K.held out.old) (K.held out.new) (settled_output self.old.text self.old.limit) (written_at Over self.old.limit (self.old.text ++ piece.now))) }
-        ensures cause { HasJobCause (K.faults out.old) (K.faults out.new) result }
+        ensures writes { Writes K.held K.faults out.old out.new
+            (settled_output self.old.text self.old.limit) (written_at Over self.old.limit (self.old.text ++ piece.now)) result }
     {
         self.live = false;
         let status = take_last(

@@ -26,9 +26,9 @@ returns-then-piece-room-clause-writes g c =
     let W : List ℕ → Type 0 = λ l. Grew (g.K.Sink.held c.args.out.now) (g.K.Sink.held c.feed_last.new.out) (settled_output s.text s.limit) l in
     let F : List ℕ → Type 0 = λ l. GrewByFront (g.K.Sink.held c.args.out.now) (g.K.Sink.held c.feed_last.new.out) (settled_output s.text s.limit) l in
     record {
-      wrote = on_ok_weaker {P = W (written_at Over s.limit (s.text ++ take room piece))} {Q = W (settled_output (with_piece s.text piece) s.limit)} c.feed_last.result (subst W (last_output s room piece (room_of c.self.inside s c.self.view_is c.requires.live c.self.invariant) long)) c.feed_last.ensures.wrote;
-      front = on_err_weaker {P = F (written_at Over s.limit (s.text ++ take room piece))} {Q = F (settled_output (with_piece s.text piece) s.limit)} c.feed_last.result (subst F (last_output s room piece (room_of c.self.inside s c.self.view_is c.requires.live c.self.invariant) long)) c.feed_last.ensures.front;
-      cause = c.feed_last.ensures.cause;
+      wrote = on_ok_weaker {P = W (written_at Over s.limit (s.text ++ take room piece))} {Q = W (settled_output (with_piece s.text piece) s.limit)} c.feed_last.result (subst W (last_output s room piece (room_of c.self.inside s c.self.view_is c.requires.live c.self.invariant) long)) c.feed_last.ensures.writes.wrote;
+      front = on_err_weaker {P = F (written_at Over s.limit (s.text ++ take room piece))} {Q = F (settled_output (with_piece s.text piece) s.limit)} c.feed_last.result (subst F (last_output s room piece (room_of c.self.inside s c.self.view_is c.requires.live c.self.invariant) long)) c.feed_last.ensures.writes.front;
+      cause = c.feed_last.ensures.writes.cause;
     }
 
 pub returns-else-piece-room-clause-progress : goal.returns-else-piece-room-clause-progress
@@ -57,7 +57,7 @@ returns-else-piece-room-clause-writes g c =
     let W : List ℕ → Type 0 = λ l. Grew (g.K.Sink.held c.args.out.now) (g.K.Sink.held c.feed_all.new.out) (settled_output s.text s.limit) (settled_output l s.limit) in
     let F : List ℕ → Type 0 = λ l. GrewByFront (g.K.Sink.held c.args.out.now) (g.K.Sink.held c.feed_all.new.out) (settled_output s.text s.limit) (settled_output l s.limit) in
     record {
-      wrote = on_ok_weaker {P = W (s.text ++ piece)} {Q = W (with_piece s.text piece)} c.feed_all.result (subst W (sym (fits s room piece (room_of c.self.inside s c.self.view_is c.requires.live c.self.invariant) short))) c.feed_all.ensures.wrote;
-      front = on_err_weaker {P = F (s.text ++ piece)} {Q = F (with_piece s.text piece)} c.feed_all.result (subst F (sym (fits s room piece (room_of c.self.inside s c.self.view_is c.requires.live c.self.invariant) short))) c.feed_all.ensures.front;
-      cause = c.feed_all.ensures.cause;
+      wrote = on_ok_weaker {P = W (s.text ++ piece)} {Q = W (with_piece s.text piece)} c.feed_all.result (subst W (sym (fits s room piece (room_of c.self.inside s c.self.view_is c.requires.live c.self.invariant) short))) c.feed_all.ensures.writes.wrote;
+      front = on_err_weaker {P = F (s.text ++ piece)} {Q = F (with_piece s.text piece)} c.feed_all.result (subst F (sym (fits s room piece (room_of c.self.inside s c.self.view_is c.requires.live c.self.invariant) short))) c.feed_all.ensures.writes.front;
+      cause = c.feed_all.ensures.writes.cause;
     }

@@ -1,35 +1,48 @@
-use Rattle.std.proofs.Common.{List, ℕ}
+use Rattle.std.proofs.Common.{List, ℕ, arith}
+use Rattle.std.proofs.lemmas.Grind.{common_steps}
 use Rattle.mm_job.specs.Jobs.{Grew, GrewByFront}
 use Rattle.mm_job.specs.Output.{More}
 use Rattle.mm_job.proofs.FeedLemmas.{on_err}
 use Rattle.mm_job.proofs.JobLemmas.{all_of_state, state_goes_on, state_refused}
 use Rattle.mm_job.proofs.job.Job.feed_all.Goals as goal
 
-pub returns-in_err-take_piece-clause-front : goal.returns-in_err-take_piece-clause-front
-returns-in_err-take_piece-clause-front g c =
+pub returns-in_err-take_piece-clause-writes : goal.returns-in_err-take_piece-clause-writes
+returns-in_err-take_piece-clause-writes g c =
     let held = g.K.Sink.held in
-    on_err c.from_residual.result
-    (all_of_state (λ (a b : List ℕ). GrewByFront (held c.args.out.now) (held c.take_piece.new.out) a b) c.args.piece.now c.self.inside c.args.self.now c.self.view_is c.requires.size
-    (c.in_err-take_piece.ensures.front More))
+    record {
+      wrote = grind (arith, common_steps);
+      front = on_err c.from_residual.result
+          (all_of_state (λ (a b : List ℕ). GrewByFront (held c.args.out.now) (held c.take_piece.new.out) a b) c.args.piece.now c.self.inside c.args.self.now c.self.view_is c.requires.size
+          (c.in_err-take_piece.ensures.front More));
+      cause = grind (arith, common_steps);
+    }
 
 pub returns-then-is_refused-clause-progress : goal.returns-then-is_refused-clause-progress
 returns-then-is_refused-clause-progress g c =
     state_refused c.args.piece.now c.self.inside c.args.self.now c.take_piece.new.state c.is_refused.result c.self.view_is c.requires.size c.in_ok-take_piece.ensures.stands c.is_refused.ensures
     c.if-is_refused.true
 
-pub returns-then-is_refused-clause-wrote : goal.returns-then-is_refused-clause-wrote
-returns-then-is_refused-clause-wrote g c =
+pub returns-then-is_refused-clause-writes : goal.returns-then-is_refused-clause-writes
+returns-then-is_refused-clause-writes g c =
     let held = g.K.Sink.held in
-    all_of_state (λ (a b : List ℕ). Grew (held c.args.out.now) (held c.take_piece.new.out) a b) c.args.piece.now c.self.inside c.args.self.now c.self.view_is c.requires.size
-    c.in_ok-take_piece.ensures.wrote
+    record {
+      wrote = all_of_state (λ (a b : List ℕ). Grew (held c.args.out.now) (held c.take_piece.new.out) a b) c.args.piece.now c.self.inside c.args.self.now c.self.view_is c.requires.size
+          c.in_ok-take_piece.ensures.wrote;
+      front = tt;
+      cause = grind (arith, common_steps);
+    }
 
 pub returns-clause-progress : goal.returns-clause-progress
 returns-clause-progress g c =
     state_goes_on c.args.piece.now c.self.inside c.args.self.now c.take_piece.new.state c.is_refused.result c.self.view_is c.requires.size c.in_ok-take_piece.ensures.stands c.is_refused.ensures
     c.if-is_refused.false
 
-pub returns-clause-wrote : goal.returns-clause-wrote
-returns-clause-wrote g c =
+pub returns-clause-writes : goal.returns-clause-writes
+returns-clause-writes g c =
     let held = g.K.Sink.held in
-    all_of_state (λ (a b : List ℕ). Grew (held c.args.out.now) (held c.take_piece.new.out) a b) c.args.piece.now c.self.inside c.args.self.now c.self.view_is c.requires.size
-    c.in_ok-take_piece.ensures.wrote
+    record {
+      wrote = all_of_state (λ (a b : List ℕ). Grew (held c.args.out.now) (held c.take_piece.new.out) a b) c.args.piece.now c.self.inside c.args.self.now c.self.view_is c.requires.size
+          c.in_ok-take_piece.ensures.wrote;
+      front = tt;
+      cause = grind (arith, common_steps);
+    }
