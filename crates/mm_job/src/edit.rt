@@ -29,7 +29,8 @@ pub struct Above {
 /// `weight NAME WEIGHT`
 #[tactic(auto, unfolding(crate::specs::Edits::weight_fields))]
 fn read_weight(line: &Line) -> Result<NewWeight, Refusal>
-    ensures { MatchResult result (λ w. weight_fields line.now ≡ Ok (w.name, w.weight)) (λ refusal. weight_fields line.now ≡ Err refusal) }
+    ensures { MatchResult result
+        (λ w. weight_fields line.now ≡ Ok (w.name, w.weight)) (λ refusal. weight_fields line.now ≡ Err refusal) }
 {
     let Some((name, weight)) = two(args(line)) else {
         return Err(Refusal::Syntax(line.number));
@@ -46,7 +47,8 @@ fn read_weight(line: &Line) -> Result<NewWeight, Refusal>
 /// `replace NAME UP`
 #[tactic(auto, unfolding(crate::specs::Edits::replace_fields))]
 pub fn read_replace(line: &Line) -> Result<Above, Refusal>
-    ensures { MatchResult result (λ w. replace_fields line.now ≡ Ok (w.name, w.up)) (λ refusal. replace_fields line.now ≡ Err refusal) }
+    ensures { MatchResult result
+        (λ w. replace_fields line.now ≡ Ok (w.name, w.up)) (λ refusal. replace_fields line.now ≡ Err refusal) }
 {
     let Some((name, up)) = two(args(line)) else {
         return Err(Refusal::Syntax(line.number));

@@ -6,9 +6,9 @@ ghost use Rattle.std.specs.Io.KnownBytes.{Appends};
 ghost use Rattle.mm_base.specs.Causes.{GrowsByFront};
 ghost use Rattle.mm_job.specs.Calls.{Writes};
 ghost use Rattle.mm_job.specs.State.Blocks.{written};
-ghost use Rattle.mm_job.specs.State.JobStates.{come_to, end_by, status_at};
-ghost use Rattle.mm_job.specs.State.Feeding.{Fed, IsWithin, left};
-ghost use Rattle.mm_job.specs.Jobs.{Grew, GrewByFront, HasJobCause};
+ghost use Rattle.mm_job.specs.State.JobStates.{come_to, status_at};
+ghost use Rattle.mm_job.specs.State.Feeding.{Fed, FedLine, GrewByFrontOfPiece, GrewByPiece, IsWithin, last_lines, left};
+ghost use Rattle.mm_job.specs.Jobs.{HasJobCause};
 ghost use Rattle.mm_job.specs.Output.{Ending, More, Over, end_of, output, printed, printed_all, status_of, written_lines};
 ghost use Rattle.mm_job.specs.State.Standing.{IsRead, Stands, written_at};
 ghost use Rattle.mm_job.specs.State.Stages.{IsKeptAt, lines_from_stage};
@@ -79,7 +79,7 @@ fn take_written<K: Sink>(
 ) -> Result<(), JobFault>
     requires kept { IsKeptAt state.old.stage }
     ensures kept { IfOk result (λ u. IsKeptAt state.new.stage) }
-    ensures fed { OnOk result ((rs : List LineOf) → Fed limit state.old state.new (line.now ∷ rs) rs (K.held out.old) (K.held out.new)) }
+    ensures fed { OnOk result (FedLine limit state.old state.new line.now (K.held out.old) (K.held out.new)) }
     ensures front { OnErr result ((e : Ending) (rs : List LineOf) →
         GrowsByFront (K.held out.old) (K.held out.new) (printed_all (lines_from_stage limit state.old.stage e (line.now ∷ rs)))) }
     ensures cause { HasJobCause (K.faults out.old) (K.faults out.new) result }
@@ -152,9 +152,10 @@ fn end_state<K: Sink>(
     over: bool,
     out: &mut K,
 ) -> Result<Status, JobFault>
-    ensures status { IfOk result (λ s. (limit : ℕ) → s ≡ status_at (come_to state.now.status (lines_from_stage limit state.now.stage (end_by over) []))) }
-    ensures wrote { OnOk result ((limit : ℕ) → Appends (K.held out.old) (K.held out.new) (printed_all (lines_from_stage limit state.now.stage (end_by over) []))) }
-    ensures front { OnErr result ((limit : ℕ) → GrowsByFront (K.held out.old) (K.held out.new) (printed_all (lines_from_stage limit state.now.stage (end_by over) []))) }
+    ensures status { IfOk result (λ s. (limit : ℕ) → s ≡ status_at (come_to state.now.status (last_lines limit state.now.stage over))) }
+    ensures wrote { OnOk result ((limit : ℕ) → Appends (K.held out.old) (K.held out.new) (printed_all (last_lines limit state.now.stage over))) }
+    ensures front { OnErr result ((limit : ℕ) →
+        GrowsByFront (K.held out.old) (K.held out.new) (printed_all (last_lines limit state.now.stage over))) }
     ensures cause { HasJobCause (K.faults out.old) (K.faults out.new) result }
 {
     let output_line = last_output_line(&state.stage, over);
@@ -178,8 +179,8 @@ pub fn take_piece<K: Sink>(
     ensures stands { OnOk result (Stands limit (framer.old.bytes ++ piece.now) state.new) }
     ensures stream { OnOk result (IsRead framer.new) }
     ensures bytes { OnOk result (framer.new.bytes ≡ framer.old.bytes ++ piece.now) }
-    ensures wrote { OnOk result (Grew (K.held out.old) (K.held out.new) (written_at More limit framer.old.bytes) (written_at More limit (framer.old.bytes ++ piece.now))) }
-    ensures front { OnErr result ((e : Ending) → GrewByFront (K.held out.old) (K.held out.new) (written_at More limit framer.old.bytes) (written_at e limit (framer.old.bytes ++ piece.now))) }
+    ensures wrote { OnOk result (GrewByPiece (K.held out.old) (K.held out.new) limit framer.old.bytes piece.now) }
+    ensures front { OnErr result (GrewByFrontOfPiece (K.held out.old) (K.held out.new) limit framer.old.bytes piece.now) }
     ensures cause { HasJobCause (K.faults out.old) (K.faults out.new) result }
 {
     framer.feed(alloc, piece)?;
@@ -218,7 +219,8 @@ pub fn take_text_end<K: Sink>(
     requires stream { IsRead framer.old }
     requires size { length framer.old.bytes ≤ most_bytes }
     ensures status { IfOk result (λ s. s ≡ end_of framer.old.bytes limit) }
-    ensures writes { Writes K.held K.faults out.old out.new (written_at More limit framer.old.bytes) (output framer.old.bytes limit) result }
+    ensures writes { Writes K.held K.faults out.old out.new
+        (written_at More limit framer.old.bytes) (output framer.old.bytes limit) result }
 {
     framer.finish();
     feed_lines(alloc, limit, state, framer, out)?;

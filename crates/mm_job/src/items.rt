@@ -1,14 +1,12 @@
 //! The items of a job, line by line.
-ghost use Rattle.std.specs.Prelude.{◌≡◌, ◌∷◌, ◌++◌, [], List, IfOk, Some, None, true, false, codes, if◌then◌else◌};
+ghost use Rattle.std.specs.Prelude.{◌≡◌, ◌∷◌, ◌++◌, [], List, IfOk, Some, None, true, false};
 ghost use Rattle.std.specs.List.{IsDistinct};
 ghost use Rattle.std.specs.Str.{bytes_eq};
 ghost use Rattle.mm_lines.specs.declared.line.Line.{Line};
-ghost use Rattle.mm_job.specs.State.Blocks.{AreBegun, IsBegun, block_from, lines_from_block, written};
+ghost use Rattle.mm_job.specs.State.Blocks.{AreBegun, IsBegun, block_from, comparison_line, lines_from_block, written};
 ghost use Rattle.mm_job.specs.Items.{closes};
 ghost use Rattle.mm_header.specs.State.HeaderStates.{IsMatrix};
-ghost use Rattle.mm_present.specs.Comparing.{compared};
 ghost use Rattle.mm_job.specs.Output.{Ending, reply_line};
-ghost use Rattle.mm_job.specs.Edits.{is_same};
 ghost use Rattle.mm_job.specs.State.Sessions.{session_of};
 ghost use Rattle.mm_job.specs.declared.output_line.OutputLine.TheVariants.{Says};
 
@@ -36,7 +34,8 @@ pub fn says(alloc: Global, words: &[u8]) -> Result<OutputLine, NoMemory>
 fn compare_present(alloc: Global, session: &Session, given: &Named) -> Result<OutputLine, NoMemory>
     requires tree { session.now.tree.f ≡ session.now.field }
     requires given { IsMatrix session.now.field given.now }
-    ensures { IfOk result (λ output_line. output_line ≡ Says (if is_same (compared session.now.field (record { names = given.now.names; rows = given.now.rows.rows }) session.now.tree.tree) then codes "same" else codes "differs")) }
+    ensures { IfOk result (λ output_line. output_line ≡
+        comparison_line (session_of session.now) (record { names = given.now.names; rows = given.now.rows.rows })) }
 {
     match compare(alloc, given, &session.tree)? {
         Verdict::Same => says(alloc, b"same"),
@@ -48,7 +47,7 @@ fn compare_present(alloc: Global, session: &Session, given: &Named) -> Result<Ou
 fn compare_names(alloc: Global, session: &Session, names: &NameSet) -> Result<OutputLine, NoMemory>
     requires tree { session.now.tree.f ≡ session.now.field }
     requires different { IsDistinct bytes_eq names.now }
-    ensures { IfOk result (λ output_line. output_line ≡ Says (if is_same (compared session.now.field (record { names = names.now; rows = [] }) session.now.tree.tree) then codes "same" else codes "differs")) }
+    ensures { IfOk result (λ output_line. output_line ≡ comparison_line (session_of session.now) (record { names = names.now; rows = [] })) }
 {
     let rows = Matrix::new(alloc, session.field, names.len());
     let names = names.to_list(alloc)?;

@@ -33,12 +33,12 @@ impl Model for Job {
 }
 
 impl Job {
-    ghost use Rattle.std.specs.Prelude.{◌≡◌, ◌≤◌, ◌+◌, ◌++◌, [], true, false, Ok, IfOk, OnOk, OnErr, length};
-    ghost use Rattle.mm_lines.specs.Lines.{most_bytes, settled};
+    ghost use Rattle.std.specs.Prelude.{◌≡◌, ◌≤◌, ◌+◌, ◌++◌, [], true, false, Ok, IfOk, length};
+    ghost use Rattle.mm_lines.specs.Lines.{most_bytes};
     ghost use Rattle.mm_job.specs.Calls.{Writes};
-    ghost use Rattle.mm_job.specs.Jobs.{Grew, GrewByFront, HasJobCause, goes_on, progress, with_piece};
-    ghost use Rattle.mm_job.specs.Output.{Over, end_of, output, settled_output, status_of, written_lines};
-    ghost use Rattle.mm_job.specs.State.Standing.{written_at};
+    ghost use Rattle.mm_job.specs.Jobs.{goes_on, progress, with_piece};
+    ghost use Rattle.mm_job.specs.Output.{Over, end_of, output, settled_output};
+    ghost use Rattle.mm_job.specs.State.Standing.{status_over, written_at};
     ghost use Rattle.mm_job.specs.declared.progress.Progress.TheVariants.{Ended, More};
 
     /// A job with no text so far, with this limit on sizes. It takes no memory yet.
@@ -98,7 +98,7 @@ impl Job {
     ) -> Result<Progress, JobFault>
         requires live { self.old.live ≡ true }
         requires size { length self.old.text + length piece.now ≤ most_bytes }
-        ensures progress { IfOk result (λ p. p ≡ Ended (status_of (written_lines self.old.limit Over (settled (self.old.text ++ piece.now))))) }
+        ensures progress { IfOk result (λ p. p ≡ Ended (status_over self.old.limit (self.old.text ++ piece.now))) }
         ensures limit { self.new.limit ≡ self.old.limit }
         ensures live { self.new.live ≡ false }
         ensures writes { Writes K.held K.faults out.old out.new

@@ -8,11 +8,8 @@ ghost use Rattle.mm_job.specs.NotBuilt.{is_built, may_be_over, over_limit};
 ghost use Rattle.mm_job_text.specs.Becoming.{Goes, Reads};
 ghost use Rattle.mm_job_text.specs.Checks.{require};
 ghost use Rattle.mm_job.specs.Output.{answered};
-ghost use Rattle.mm_job.specs.PlainTruth.{plain_truth};
+ghost use Rattle.mm_job.specs.PlainTruth.{truth_on};
 ghost use Rattle.mm_formula.specs.Syntax.{nodes, syntax_of};
-ghost use Rattle.mm_job.specs.Meaning.{everything};
-ghost use Rattle.mm_logic.specs.PresentMatrix.{is_independent_set};
-ghost use Rattle.mm_tree.specs.NamedTree.{shape};
 ghost use Rattle.mm_job_text.specs.Readers.{Read};
 ghost use Rattle.mm_job.specs.State.Sessions.{session_of, session_with};
 ghost use Rattle.mm_job.specs.declared.output_line.OutputLine.TheVariants.{Says};
@@ -55,7 +52,7 @@ pub fn is_built(query: &Scoped) -> bool
 
 /// The truth of a formula without quantifiers and variables. It asks for the independence of all elements only where the formula does.
 fn truth(alloc: Global, formula: &Formula, tree: &Tree) -> Result<bool, NoMemory>
-    ensures { IfOk result (λ b. b ≡ plain_truth (is_independent_set (tree.now.f) (shape (tree.now.tree)) (everything (tree.now.tree))) (syntax_of formula.now)) }
+    ensures { IfOk result (λ b. b ≡ truth_on tree.now.f tree.now.tree (syntax_of formula.now)) }
 {
     if !speaks_of_all(formula) {
         return Ok(plain_truth(formula, true));
@@ -158,7 +155,8 @@ pub fn start(
     requires tree { tree.f ≡ header.field }
     ensures tree { IfOk result (λ s. s.tree.f ≡ s.field) }
     ensures built { IfOk result (λ s. is_built (query_value s.query) ≡ true) }
-    ensures goes { (rs : List Line) → Goes result (after_parts limit (header_value header, tree.tree) (line.now ∷ rs)) (λ s. Read (session_of s) rs) }
+    ensures goes { (rs : List Line) →
+        Goes result (after_parts limit (header_value header, tree.tree) (line.now ∷ rs)) (λ s. Read (session_of s) rs) }
 {
     let query = checked_query(alloc, limit, &header, &tree, line)?;
     let HeaderData {

@@ -3,7 +3,7 @@ use Rattle.std.specs.Prelude.{List, [], ◌∷◌, Option, Some, None, Ok}
 use Rattle.std.specs.List.{IsDistinct}
 use Rattle.std.specs.Str.{bytes_eq}
 use Rattle.mm_field.specs.declared.Field.{Field}
-use Rattle.mm_job.specs.Edits.{Reply, Denied, check_names, check_rows, compared_or, is_same, read_whole}
+use Rattle.mm_job.specs.Edits.{Reply, Compared, Denied, check_names, check_rows, compared_or, is_same, read_whole}
 use Rattle.mm_job.specs.Header.{Session}
 use Rattle.mm_job.specs.Items.{Rest, items, rest_of_block}
 use Rattle.mm_present.specs.Comparing.{Named, compared}
@@ -19,6 +19,10 @@ use Rattle.mm_job_text.specs.Readers.{Reading}
 -- The reply of a check that was read.
 abbrev pub reply_of : Session → Reading Named → Reply
 reply_of s given = compared_or (read_whole given >>= λ named. Ok (is_same (compared s.f named s.tree)))
+
+-- The line that says whether a matrix agrees with the present tree.
+abbrev pub comparison_line : Session → Named → OutputLine
+comparison_line s given = reply_line (Compared (is_same (compared s.f given s.tree)))
 
 -- The reply of a block that has begun, by the rest of its lines.
 abbrev pub block_from : Session → Block → List Line → Reply

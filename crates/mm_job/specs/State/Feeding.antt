@@ -1,9 +1,12 @@
 -- Between code and definitions: what a job has written of the lines that it has taken, whatever comes after them.
-use Rattle.std.specs.Prelude.{◌≡◌, ℕ, ◌≤◌, List, ◌++◌, length, drop, Option}
+use Rattle.std.specs.Prelude.{◌≡◌, ℕ, ◌≤◌, Bool, List, [], ◌∷◌, ◌++◌, length, drop, Option}
 use Rattle.std.specs.Io.KnownBytes.{Appends}
-use Rattle.mm_job.specs.State.JobStates.{come_to}
-use Rattle.mm_job.specs.Output.{Ending, printed_all}
+use Rattle.mm_job.specs.Jobs.{Grew, GrewByFront}
+use Rattle.mm_job.specs.State.JobStates.{come_to, end_by}
+use Rattle.mm_job.specs.Output.{Ending, More, printed_all}
+use Rattle.mm_job.specs.State.Standing.{written_at}
 use Rattle.mm_job.specs.State.Stages.{lines_from_stage}
+use Rattle.mm_job.specs.declared.stage.Stage.{Stage}
 use Rattle.mm_job.specs.declared.state.JobState.{JobState}
 use Rattle.mm_job.specs.declared.output_line.OutputLine.{OutputLine}
 use Rattle.mm_lines.specs.Lines.{lines_of}
@@ -24,3 +27,20 @@ pub record Fed (limit : ℕ) (old new : JobState) (lines lines_new : List Line) 
   pub grew : Appends held held_new (printed_all outputs)
   pub same : (e : Ending) (rs : List Line) → lines_from_stage limit old.stage e (lines ++ rs) ≡ outputs ++ lines_from_stage limit new.stage e (lines_new ++ rs)
   pub comes : new.status ≡ come_to old.status outputs
+
+-- The same of one line, whatever lines come after it.
+abbrev pub FedLine : ℕ → (old new : JobState) → Line → (held held_new : Option (List ℕ)) → Type 0
+FedLine limit old new r held held_new = (rs : List Line) → Fed limit old new (r ∷ rs) rs held held_new
+
+-- What is written where a text ends at a stage, or has more bytes than are used.
+abbrev pub last_lines : ℕ → Stage → Bool → List OutputLine
+last_lines limit stage over = lines_from_stage limit stage (end_by over) []
+
+-- What a sink holds grew by what a piece more settles of a text.
+abbrev pub GrewByPiece : (held held_new : Option (List ℕ)) → (limit : ℕ) → (text piece : List ℕ) → Type 0
+GrewByPiece held held_new limit text piece = Grew held held_new (written_at More limit text) (written_at More limit (text ++ piece))
+
+-- What a sink holds grew by a front of what is written of a text with a piece more, whatever its ending.
+abbrev pub GrewByFrontOfPiece : (held held_new : Option (List ℕ)) → (limit : ℕ) → (text piece : List ℕ) → Type 0
+GrewByFrontOfPiece held held_new limit text piece =
+    (e : Ending) → GrewByFront held held_new (written_at More limit text) (written_at e limit (text ++ piece))

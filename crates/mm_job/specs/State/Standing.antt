@@ -1,7 +1,8 @@
 -- Between code and definitions: what the state of a job owes to the text that it has taken.
 use Rattle.std.specs.Prelude.{◌≡◌, ℕ, false, List, ◌++◌, length, None}
+use Rattle.mm_base.specs.declared.status.Status.{Status}
 use Rattle.mm_job.specs.State.JobStates.{come_to}
-use Rattle.mm_job.specs.Output.{Ending, More, printed_all, written_lines}
+use Rattle.mm_job.specs.Output.{Ending, More, Over, printed_all, status_of, written_lines}
 use Rattle.mm_job.specs.State.Stages.{IsKeptAt, lines_from_stage}
 use Rattle.mm_job.specs.declared.state.JobState.{JobState}
 use Rattle.mm_lines.specs.Lines.{lines_of, settled}
@@ -11,6 +12,10 @@ use Rattle.mm_lines.specs.declared.line.Line.{Line}
 -- What is written for the settled lines of a text, with this ending.
 abbrev pub written_at : Ending → ℕ → List ℕ → List ℕ
 written_at e limit text = printed_all (written_lines limit e (settled text))
+
+-- The status of a text that has more bytes than are used.
+abbrev pub status_over : ℕ → List ℕ → Status
+status_over limit text = status_of (written_lines limit Over (settled text))
 
 -- All lines of a stream that goes on were handed out.
 pub record IsRead (s : Stream) : Type 0 where
