@@ -25,9 +25,9 @@ abbrev pub IsFar : Start → (left_now held_now : Option (List ℕ)) → JobValu
 IsFar start left_now held_now job = SoFar job.limit start.left left_now start.held held_now job.text
 
 -- The job took so many bytes more, and goes on.
-pub record TookMore (start : Start) (left_now held_now : Option (List ℕ)) (old new : JobValue) (count : ℕ) : Type 0 where
-  pub count : length new.text ≡ length old.text + count
-  pub some : 0 < count
+pub record TookMore (start : Start) (left_now held_now : Option (List ℕ)) (old new : JobValue) (n : ℕ) : Type 0 where
+  pub count : length new.text ≡ length old.text + n
+  pub some : 0 < n
   pub limit : new.limit ≡ old.limit
   pub live : new.live ≡ true
   pub far : IsFar start left_now held_now new

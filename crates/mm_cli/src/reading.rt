@@ -86,7 +86,8 @@ fn read_pieces<S: Source, K: Sink, L: Ledger>(
     ghost start: { Start }
     requires live { job.old.live ≡ true }
     requires new { job.old.text ≡ [] }
-    requires far { IsFar start (S.left source.old) (K.held sink.old) job.old }
+    requires left { start.left ≡ S.left source.old }
+    requires held { start.held ≡ K.held sink.old }
     ensures stopped { IfSome result (λ s. Ran job.old.limit start.left (S.left source.new) start.held (K.held sink.new) s) }
     ensures all { IfNone result ((job.new.live ≡ true) × IsRead job.old.limit start.left (S.left source.new) start.held (K.held sink.new) job.new) }
     ensures read_fault { result ≡ Some ends.ReadFault → Rose (S.faults source.old) (S.faults source.new) }

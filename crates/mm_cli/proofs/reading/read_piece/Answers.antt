@@ -12,7 +12,7 @@ use Rattle.mm_cli.proofs.reading.read_piece.Goals as goal
 pub returns-in_default-clause-came : goal.returns-in_default-clause-came
 returns-in_default-clause-came g c =
     let j = c.args.job.now in
-    ran_read_fault j.limit g.start.left (g.S.Source.left c.args.source.now) (g.S.Source.left c.read.new.self) g.start.held (g.K.Sink.held c.args.sink.now) j.text c.requires.far c.in_default.ensures.bytes
+    ran_read_fault j.limit g.start.left (g.S.Source.left c.args.source.now) (g.S.Source.left c.read.new.self) g.start.held (g.K.Sink.held c.args.sink.now) j.text c.requires.1.1.1.1.1.1.1 c.in_default.ensures.bytes
 
 pub returns-in-Ok-Ended-clause-came : goal.returns-in-Ok-Ended-clause-came
 returns-in-Ok-Ended-clause-came g c =
@@ -20,7 +20,7 @@ returns-in-Ok-Ended-clause-came g c =
     let piece = take c.in-Ok.count c.read.new.buf in
     let room : length j.text + length piece ≤ most_bytes + 1 = grind (arith, common_steps) in
     ran_ended j.limit g.start.left (g.S.Source.left c.args.source.now) (g.S.Source.left c.read.new.self) g.start.held (g.K.Sink.held c.args.sink.now) (g.K.Sink.held c.feed.new.out)
-    j.text piece c.in-Ok-Ended.status c.requires.far c.in-Ok.ensures.bytes.0 room c.in-Ok-Ended.ensures.writes.wrote (sym c.in-Ok-Ended.field-0-is ∙ c.in-Ok-Ended.ensures.progress)
+    j.text piece c.in-Ok-Ended.status c.requires.1.1.1.1.1.1.1 c.in-Ok.ensures.bytes.0 room c.in-Ok-Ended.ensures.writes.wrote (sym c.in-Ok-Ended.field-0-is ∙ c.in-Ok-Ended.ensures.progress)
 
 pub returns-in-Err-clause-came : goal.returns-in-Err-clause-came
 returns-in-Err-clause-came g c =
@@ -30,7 +30,7 @@ returns-in-Err-clause-came g c =
     let asked : length piece ≤ most_asked = grind (arith, common_steps) in
     subst (λ t. Ran j.limit g.start.left (g.S.Source.left c.read.new.self) g.start.held (g.K.Sink.held c.feed.new.out) t) (sym c.cut.ensures)
     (ran_stopped j.limit g.start.left (g.S.Source.left c.args.source.now) (g.S.Source.left c.read.new.self) g.start.held (g.K.Sink.held c.args.sink.now) (g.K.Sink.held c.feed.new.out)
-    j.text piece c.in-Err.fault c.requires.far c.in-Ok.ensures.bytes.0 room asked c.in-Err.ensures.writes.front)
+    j.text piece c.in-Err.fault c.requires.1.1.1.1.1.1.1 c.in-Ok.ensures.bytes.0 room asked c.in-Err.ensures.writes.front)
 
 pub returns-in-Ok-More-clause-came : goal.returns-in-Ok-More-clause-came
 returns-in-Ok-More-clause-came g c =
@@ -43,7 +43,7 @@ returns-in-Ok-More-clause-came g c =
     let text : c.feed.new.self.text ≡ j.text ++ piece =
     c.in-Ok-More.ensures.text (ap (λ p. more_ok p) c.in-Ok-More.field-0-is) ∙ whole_piece j.text piece whole in
     let far = further j.limit g.start.left (g.S.Source.left c.args.source.now) (g.S.Source.left c.read.new.self) g.start.held (g.K.Sink.held c.args.sink.now) (g.K.Sink.held c.feed.new.out)
-    j.text piece c.requires.far c.in-Ok.ensures.bytes.0 room c.in-Ok-More.ensures.writes.wrote in
+    j.text piece c.requires.1.1.1.1.1.1.1 c.in-Ok.ensures.bytes.0 room c.in-Ok-More.ensures.writes.wrote in
     record {
       count = ap length text ∙ length-append j.text piece ∙ ap (λ k. length j.text + k) count;
       some = some;

@@ -1,17 +1,26 @@
 use Rattle.std.proofs.Common.{length, sym, ap, subst, arith, refl}
+use Rattle.mm_cli.specs.Going.{SoFar}
 use Rattle.mm_cli.specs.Runs.{Ran}
+use Rattle.mm_cli.proofs.RunLemmas.{at_first}
 use Rattle.mm_cli.proofs.reading.read_pieces.Goals as goal
 
 pub pieces-init : goal.pieces-init
-pieces-init g c = record {
-  far = c.requires.far;
-  count = ap length c.requires.new;
-  limit = refl;
-  live = c.requires.live;
-  source_later = omega arith;
-  sink_later = omega arith;
-  steps = refl;
-}
+pieces-init g c =
+    let l = g.S.Source.left c.args.source.now in
+    let h = g.K.Sink.held c.args.sink.now in
+    let limit = c.args.job.now.limit in
+    let asks = c.requires.1.1.1 in
+    record {
+      far = subst (λ b. SoFar limit g.start.left l b h c.args.job.now.text) (sym asks.1.1.1)
+          (subst (λ a. SoFar limit a l h h c.args.job.now.text) (sym asks.1.1.0)
+          (subst (λ t. SoFar limit l l h h t) (sym asks.1.0) (at_first limit l h)));
+      count = ap length asks.1.0;
+      limit = refl;
+      live = asks.0;
+      source_later = omega arith;
+      sink_later = omega arith;
+      steps = refl;
+    }
 
 pub returns-in-Stop-clause-stopped : goal.returns-in-Stop-clause-stopped
 returns-in-Stop-clause-stopped g c =
