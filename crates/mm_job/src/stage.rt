@@ -1,9 +1,6 @@
 //! A job, line by line.
-ghost use Rattle.std.specs.Prelude.{◌≡◌, ◌∷◌, ◌++◌, List, IfOk};
-ghost use Rattle.mm_lines.specs.declared.line.Line.{Line};
-ghost use Rattle.mm_job.specs.State.Blocks.{written};
-ghost use Rattle.mm_job.specs.Output.{Ending};
-ghost use Rattle.mm_job.specs.State.Stages.{IsKeptAt, lines_from_stage};
+ghost use Rattle.std.specs.Prelude.{IfOk};
+ghost use Rattle.mm_job.specs.State.Stages.{IsKeptAt, TakesLine};
 ghost use Rattle.mm_job.specs.declared.stage.Stage.TheVariants as stages;
 
 use crate::block::Block;
@@ -48,8 +45,7 @@ fn take_header(
 ) -> Result<LineStep, NoMemory>
     requires kept { IsKeptAt (stages.Header header) }
     ensures kept { IfOk result (λ taken. IsKeptAt taken.stage) }
-    ensures step { IfOk result (λ taken. (e : Ending) (rs : List Line) →
-        lines_from_stage limit (stages.Header header) e (line.now ∷ rs) ≡ written taken.output_line ++ lines_from_stage limit taken.stage e rs) }
+    ensures step { IfOk result (TakesLine limit (stages.Header header) line.now) }
 {
     match take_header_line(alloc, HeaderRules::of_job(), header, line) {
         Ok(HeaderStep::More(header)) => Ok(LineStep {
@@ -78,8 +74,7 @@ fn take_query(
 ) -> Result<LineStep, NoMemory>
     requires kept { IsKeptAt (stages.Query header tree) }
     ensures kept { IfOk result (λ taken. IsKeptAt taken.stage) }
-    ensures step { IfOk result (λ taken. (e : Ending) (rs : List Line) →
-        lines_from_stage limit (stages.Query header tree) e (line.now ∷ rs) ≡ written taken.output_line ++ lines_from_stage limit taken.stage e rs) }
+    ensures step { IfOk result (TakesLine limit (stages.Query header tree) line.now) }
 {
     match start(alloc, limit, header, tree, line) {
         Ok(session) => {
@@ -107,8 +102,7 @@ fn take_item(
 ) -> Result<LineStep, NoMemory>
     requires kept { IsKeptAt (stages.Items session block) }
     ensures kept { IfOk result (λ taken. IsKeptAt taken.stage) }
-    ensures step { IfOk result (λ taken. (e : Ending) (rs : List Line) →
-        lines_from_stage limit (stages.Items session block) e (line.now ∷ rs) ≡ written taken.output_line ++ lines_from_stage limit taken.stage e rs) }
+    ensures step { IfOk result (TakesLine limit (stages.Items session block) line.now) }
 {
     let written_lines = take_item_line(alloc, &session, block, line)?;
     Ok(LineStep {
@@ -121,8 +115,7 @@ fn take_item(
 pub fn take_line(alloc: Global, limit: u64, stage: Stage, line: &Line) -> Result<LineStep, NoMemory>
     requires kept { IsKeptAt stage }
     ensures kept { IfOk result (λ taken. IsKeptAt taken.stage) }
-    ensures step { IfOk result (λ taken. (e : Ending) (rs : List Line) →
-        lines_from_stage limit stage e (line.now ∷ rs) ≡ written taken.output_line ++ lines_from_stage limit taken.stage e rs) }
+    ensures step { IfOk result (TakesLine limit stage line.now) }
 {
     match stage {
         Stage::Header(header) => take_header(alloc, limit, header, line),

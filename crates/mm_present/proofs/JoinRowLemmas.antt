@@ -11,7 +11,8 @@ use Rattle.mm_logic.specs.Operator.{row_length}
 use Rattle.mm_logic.specs.PresentMatrix.{column_digits}
 use Rattle.mm_matrix.specs.MatrixValue.{MatrixValue}
 use Rattle.mm_ops.specs.OpValue.{OpValue}
-use Rattle.mm_present.specs.RowForm.{row_of, in_join}
+use Rattle.mm_logic.specs.PresentMatrix.{row_of}
+use Rattle.mm_logic_laws.specs.MatrixLaws.{digits_at_join}
 use Rattle.mm_present.specs.Joining.{ArePart, IsSide, side_row, join_row, joined_row, widened, with_digits}
 use Rattle.mm_present.specs.declared.join_rows.Side.{Side}
 
@@ -90,7 +91,7 @@ internal_step w h t c k old now new row p l e er en =
 
 -- a join of children with these boundary rows
 pub side_is : (op : OpValue) (t : ℕ) (m : MatrixValue) (g : List (List ℕ)) (side : Side) → ArePart op.f t m → length g ≡ t →
-    (side.rows ≡ m) × (side.digits.now ≡ record { f = op.f; cols = row_length op.op; rows = in_join op.f op.op g }) → IsSide op.f (row_length op.op) side
+    (side.rows ≡ m) × (side.digits.now ≡ record { f = op.f; cols = row_length op.op; rows = digits_at_join op.f op.op g }) → IsSide op.f (row_length op.op) side
 side_is op t m g side h e p = record {
   field = ap (λ (x : MatrixValue). x.f) p.0 ∙ h.field;
   digits_field = ap (λ (x : MatrixValue). x.f) p.1;
@@ -100,15 +101,15 @@ side_is op t m g side h e p = record {
 }
 
 side_row_is : (op : OpValue) (m : MatrixValue) (g : List (List ℕ)) (side : Side) (k : ℕ) → m.f ≡ op.f →
-    (side.rows ≡ m) × (side.digits.now ≡ record { f = op.f; cols = row_length op.op; rows = in_join op.f op.op g }) →
-    side_row k side ≡ combination op.f m.cols (row_of (in_join op.f op.op g) k) m.rows
+    (side.rows ≡ m) × (side.digits.now ≡ record { f = op.f; cols = row_length op.op; rows = digits_at_join op.f op.op g }) →
+    side_row k side ≡ combination op.f m.cols (row_of (digits_at_join op.f op.op g) k) m.rows
 side_row_is op m g side k e p =
     ap₂ (λ (x d : MatrixValue). combination x.f x.cols (row_of d.rows k) x.rows) p.0 p.1
-    ∙ ap (λ h. combination h m.cols (row_of (in_join op.f op.op g) k) m.rows) e
+    ∙ ap (λ h. combination h m.cols (row_of (digits_at_join op.f op.op g) k) m.rows) e
 
 pub join_row_is : (op : OpValue) (l r : MatrixValue) (left right : Side) (k : ℕ) → l.f ≡ op.f → r.f ≡ op.f →
-    (left.rows ≡ l) × (left.digits.now ≡ record { f = op.f; cols = row_length op.op; rows = in_join op.f op.op op.op.g1 }) →
-    (right.rows ≡ r) × (right.digits.now ≡ record { f = op.f; cols = row_length op.op; rows = in_join op.f op.op op.op.g2 }) →
+    (left.rows ≡ l) × (left.digits.now ≡ record { f = op.f; cols = row_length op.op; rows = digits_at_join op.f op.op op.op.g1 }) →
+    (right.rows ≡ r) × (right.digits.now ≡ record { f = op.f; cols = row_length op.op; rows = digits_at_join op.f op.op op.op.g2 }) →
     join_row left right k ≡ joined_row op l r k
 join_row_is op l r left right k el er pl pr =
     ap₂ (λ x y. x ++ y) (side_row_is op l op.op.g1 left k el pl) (side_row_is op r op.op.g2 right k er pr)

@@ -1,4 +1,3 @@
-pub mod RowFormLemmas
 mod JoinRowLemmas
 mod JoinCacheLemmas
 mod GrowLemmas

@@ -16,8 +16,8 @@ use Rattle.mm_tree.specs.declared.node.Leaf as leaves
 use Rattle.mm_tree.specs.declared.node.Node as nodes
 use Rattle.mm_tree.specs.declared.node.Node.TheViews as views
 use Rattle.mm_tree.proofs.Walks.{named_of_leaf, named_join}
-use Rattle.mm_present.specs.Joining.{ArePart, widened, placed_rows, joined_row}
-use Rattle.mm_present.proofs.TreeRows.{part, boundary_of_join, collected_join, boundary_rows_are, length-boundary_rows, none_placed}
+use Rattle.mm_present.specs.Joining.{ArePart, widened, placed_rows, joined_row, boundary_matrix}
+use Rattle.mm_present.proofs.TreeRows.{boundary_of_join, collected_join, boundary_rows_are, length-boundary_rows, none_placed}
 
 pub always_ok : {A E : Type 0} (P : Type 0) (r : Result A E) → P → OnOk r P
 always_ok P (Ok a) p = p
@@ -77,7 +77,7 @@ at_join f node name op l r e over ok =
     }
 
 -- the boundary rows of a child of a join
-pub part_is : (f : Field) (op : OpValue) (T : shapes.Tree) (t : ℕ) (m : MatrixValue) → op.f ≡ f → m ≡ part f T → shapes.IsValid f T → shapes.boundary T ≡ t →
+pub part_is : (f : Field) (op : OpValue) (T : shapes.Tree) (t : ℕ) (m : MatrixValue) → op.f ≡ f → m ≡ boundary_matrix f T → shapes.IsValid f T → shapes.boundary T ≡ t →
     ArePart op.f t m
 part_is f op T t m ef em ok et =
     subst (λ g. ArePart g t m) (sym ef) (subst (λ (x : MatrixValue). ArePart f t x) (sym em) (record {
@@ -90,17 +90,17 @@ op_over : (f : Field) (op : OpValue) → op.f ≡ f → op ≡ record { f = f; o
 op_over f op e = ap (λ g. record { f = g; op = op.op }) e
 
 pub join_part : (f : Field) (op : OpValue) (S L R : shapes.Tree) (first second m : MatrixValue) → op.f ≡ f → S ≡ shapes.Tree.Join op.op L R →
-    shapes.IsValid f (shapes.Tree.Join op.op L R) → first ≡ part f L → second ≡ part f R →
-    m ≡ record { f = op.f; cols = first.cols + second.cols; rows = map (joined_row op first second) (range_with_len 0 op.op.t3) } → m ≡ part f S
+    shapes.IsValid f (shapes.Tree.Join op.op L R) → first ≡ boundary_matrix f L → second ≡ boundary_matrix f R →
+    m ≡ record { f = op.f; cols = first.cols + second.cols; rows = map (joined_row op first second) (range_with_len 0 op.op.t3) } → m ≡ boundary_matrix f S
 join_part f op S L R first second m ef es ok e1 e2 em =
     em
     ∙ ap₂ (λ (a b : MatrixValue). record { f = op.f; cols = a.cols + b.cols; rows = map (joined_row op a b) (range_with_len 0 op.op.t3) }) e1 e2
-    ∙ ap (λ (o : OpValue). record { f = o.f; cols = shapes.size L + shapes.size R; rows = map (joined_row o (part f L) (part f R)) (range_with_len 0 op.op.t3) }) (op_over f op ef)
+    ∙ ap (λ (o : OpValue). record { f = o.f; cols = shapes.size L + shapes.size R; rows = map (joined_row o (boundary_matrix f L) (boundary_matrix f R)) (range_with_len 0 op.op.t3) }) (op_over f op ef)
     ∙ ap (λ rows. record { f = f; cols = shapes.size L + shapes.size R; rows = rows }) (sym (boundary_of_join f op.op L R ok))
-    ∙ ap (part f) (sym es)
+    ∙ ap (boundary_matrix f) (sym es)
 
 pub join_collected : (f : Field) (op : OpValue) (S L R : shapes.Tree) (first second : MatrixValue) (at before after total : ℕ) (old mid last new : List (List ℕ)) →
-    op.f ≡ f → S ≡ shapes.Tree.Join op.op L R → shapes.IsValid f (shapes.Tree.Join op.op L R) → first ≡ part f L → second ≡ part f R →
+    op.f ≡ f → S ≡ shapes.Tree.Join op.op L R → shapes.IsValid f (shapes.Tree.Join op.op L R) → first ≡ boundary_matrix f L → second ≡ boundary_matrix f R →
     at ≡ total - (after + shapes.size R) - shapes.size L → before + (shapes.size S + after) ≡ total →
     ((b : ℕ) → b + (shapes.size R + after) ≡ total → mid ≡ old ++ reverse (placed_rows f b after R)) →
     ((b : ℕ) → b + (shapes.size L + (after + shapes.size R)) ≡ total → last ≡ mid ++ reverse (placed_rows f b (after + shapes.size R) L)) →
@@ -116,7 +116,7 @@ join_collected f op S L R first second at before after total old mid last new ef
     (en
     ∙ ap (λ b. last ++ reverse (map (widened b after) (map (joined_row op first second) (range_with_len op.op.t3 op.op.c)))) same
     ∙ ap₂ (λ (a b : MatrixValue). last ++ reverse (map (widened before after) (map (joined_row op a b) (range_with_len op.op.t3 op.op.c)))) e1 e2
-    ∙ ap (λ (o : OpValue). last ++ reverse (map (widened before after) (map (joined_row o (part f L) (part f R)) (range_with_len op.op.t3 op.op.c)))) (op_over f op ef))
+    ∙ ap (λ (o : OpValue). last ++ reverse (map (widened before after) (map (joined_row o (boundary_matrix f L) (boundary_matrix f R)) (range_with_len op.op.t3 op.op.c)))) (op_over f op ef))
     ∙ ap (λ (T : shapes.Tree). old ++ reverse (placed_rows f before after T)) (sym es)
 
 -- nothing is put at a leaf

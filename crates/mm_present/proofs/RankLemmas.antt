@@ -27,7 +27,7 @@ use Rattle.mm_matrix.specs.Residues.{AreReduced}
 use Rattle.mm_matrix.proofs.DotLemmas.{orthogonal_within}
 use Rattle.mm_matrix.proofs.FreeLemmas.{orthogonal_is_null, null_is_orthogonal, independent_kernel_vectors, count_kernel_vectors, free_inside, AreVectors-kernel_vectors}
 use Rattle.mm_matrix.proofs.NullLemmas.{leads_inside}
-use Rattle.mm_present.specs.RowForm.{row_of}
+use Rattle.mm_logic.specs.PresentMatrix.{row_of}
 use Rattle.mm_present.proofs.TreeRows.{row_vector}
 
 -- ---- a combination of columns, by rows

@@ -13,15 +13,14 @@ use Rattle.mm_field.proofs.PartLemmas.{zeros-append}
 use Rattle.mm_logic_laws.proofs.MatrixLemmas.{length-columns, columns_are}
 use Rattle.mm_logic_laws.proofs.RowLemmas.{internal-rows}
 use Rattle.mm_logic.specs.Operator.{Op, row_length}
-use Rattle.mm_logic.specs.PresentMatrix.{columns, internal, internal_row, matrix_row}
+use Rattle.mm_logic.specs.PresentMatrix.{columns, internal, internal_row, matrix_row, row_of, boundary_rows}
 use Rattle.mm_logic.specs.Tree.{Tree, size, boundary, IsValid}
 use Rattle.mm_logic.specs.Tree.Tree.{Elem, Void, Join}
 use Rattle.mm_matrix.specs.MatrixValue.{MatrixValue}
-use Rattle.mm_present.specs.RowForm.{row_of}
-use Rattle.mm_present.specs.Joining.{widened, boundary_rows, internal_rows, placed_rows, joined_row}
+use Rattle.mm_present.specs.Joining.{widened, boundary_matrix, internal_rows, placed_rows, joined_row}
 use Rattle.mm_present.proofs.GrowLemmas.{matrix}
 use Rattle.mm_present.proofs.RangeLemmas.{split_range, shift_range, same_range, map_each}
-use Rattle.mm_present.proofs.RowFormLemmas.{join_rows_are_combined}
+use Rattle.mm_logic_laws.proofs.JoinMatrixLemmas.{rows_combined}
 
 -- ---- rows are vectors
 
@@ -49,7 +48,6 @@ rows_are f T h a (suc n) ok =
     (rows_are f T h (a + 1) n ok)
 
 pub boundary_rows_are : (f : Field) (T : Tree) → IsValid f T → AreVectors f (size T) (boundary_rows f T)
-unfolding boundary_rows
 boundary_rows_are f T ok = rows_are f T (λ i. i) 0 (boundary T) ok
 
 pub internal_rows_are : (f : Field) (T : Tree) → IsValid f T → AreVectors f (size T) (internal_rows f T)
@@ -57,17 +55,14 @@ unfolding internal_rows
 internal_rows_are f T ok = rows_are f T (λ i. boundary T + i) 0 (internal T) ok
 
 pub length-boundary_rows : (f : Field) (T : Tree) → length (boundary_rows f T) ≡ boundary T
-unfolding boundary_rows
 length-boundary_rows f T = length-map-range_with_len (row_of (columns f T)) 0 (boundary T)
 
 -- ---- leaves
 
 pub rows_of_element : (f : Field) (v : List ℕ) → boundary_rows f (Elem v) ≡ map (λ k. get_or v k 0 ∷ []) (range_with_len 0 (length v))
-unfolding boundary_rows
 rows_of_element f v = refl
 
 pub rows_of_void : (f : Field) (t : ℕ) → boundary_rows f (Void t) ≡ map (λ k. []) (range_with_len 0 t)
-unfolding boundary_rows
 rows_of_void f t = refl
 
 pub none_placed : (f : Field) (T : Tree) (before after : ℕ) → internal T ≡ 0 → placed_rows f before after T ≡ []
@@ -76,25 +71,19 @@ none_placed f T before after e = ap (λ n. map (widened before after) (map (inte
 
 -- ---- a join
 
--- the boundary rows of a tree as a matrix
-abbrev pub part : Field → Tree → MatrixValue
-part f T = matrix f (size T) (boundary_rows f T)
-
 join_row_is : (f : Field) (op : Op) (l r : Tree) → IsValid f (Join op l r) → (k : ℕ) → k < row_length op →
-    matrix_row f (Join op l r) k ≡ joined_row (record { f = f; op = op }) (part f l) (part f r) k
-unfolding boundary_rows
-join_row_is f op l r ok k lk = join_rows_are_combined f op l r ok k lk
+    matrix_row f (Join op l r) k ≡ joined_row (record { f = f; op = op }) (boundary_matrix f l) (boundary_matrix f r) k
+join_row_is f op l r ok k lk = rows_combined f op l r ok k lk
 
 pub boundary_of_join : (f : Field) (op : Op) (l r : Tree) → IsValid f (Join op l r) →
-    boundary_rows f (Join op l r) ≡ map (joined_row (record { f = f; op = op }) (part f l) (part f r)) (range_with_len 0 op.t3)
-unfolding boundary_rows
+    boundary_rows f (Join op l r) ≡ map (joined_row (record { f = f; op = op }) (boundary_matrix f l) (boundary_matrix f r)) (range_with_len 0 op.t3)
 boundary_of_join f op l r ok =
-    same_range (matrix_row f (Join op l r)) (joined_row (record { f = f; op = op }) (part f l) (part f r)) 0 op.t3
+    same_range (matrix_row f (Join op l r)) (joined_row (record { f = f; op = op }) (boundary_matrix f l) (boundary_matrix f r)) 0 op.t3
     (λ i low high. join_row_is f op l r ok i (omega arith))
 
 pub internal_of_join : (f : Field) (op : Op) (l r : Tree) → IsValid f (Join op l r) →
     internal_rows f (Join op l r)
-    ≡ map (joined_row (record { f = f; op = op }) (part f l) (part f r)) (range_with_len op.t3 op.c)
+    ≡ map (joined_row (record { f = f; op = op }) (boundary_matrix f l) (boundary_matrix f r)) (range_with_len op.t3 op.c)
     ++ (map (λ row. row ++ zeros (size r)) (internal_rows f l) ++ map (λ row. zeros (size l) ++ row) (internal_rows f r))
 unfolding internal_rows
 internal_of_join f op l r ok =
@@ -108,7 +97,7 @@ internal_of_join f op l r ok =
     split_range row 0 c (ml + mr)
     ∙ ap₂ (λ a b. a ++ b)
     (sym (shift_range (matrix_row f (Join op l r)) op.t3 0 c) ∙ ap (λ i. map (matrix_row f (Join op l r)) (range_with_len i c)) zero_t
-    ∙ same_range (matrix_row f (Join op l r)) (joined_row (record { f = f; op = op }) (part f l) (part f r)) op.t3 c
+    ∙ same_range (matrix_row f (Join op l r)) (joined_row (record { f = f; op = op }) (boundary_matrix f l) (boundary_matrix f r)) op.t3 c
     (λ i low high. join_row_is f op l r ok i high))
     (ap (λ i. map row (range_with_len i (ml + mr))) zero_c ∙ shift_range row c 0 (ml + mr)
     ∙ split_range (λ i. row (c + i)) 0 ml mr
@@ -129,11 +118,11 @@ widened_right before s after row =
 
 pub placed_of_join : (f : Field) (op : Op) (l r : Tree) (before after : ℕ) → IsValid f (Join op l r) →
     placed_rows f before after (Join op l r)
-    ≡ map (widened before after) (map (joined_row (record { f = f; op = op }) (part f l) (part f r)) (range_with_len op.t3 op.c))
+    ≡ map (widened before after) (map (joined_row (record { f = f; op = op }) (boundary_matrix f l) (boundary_matrix f r)) (range_with_len op.t3 op.c))
     ++ (placed_rows f before (size r + after) l ++ placed_rows f (before + size l) after r)
 placed_of_join f op l r before after ok =
     let w = widened before after in
-    let own = map (joined_row (record { f = f; op = op }) (part f l) (part f r)) (range_with_len op.t3 op.c) in
+    let own = map (joined_row (record { f = f; op = op }) (boundary_matrix f l) (boundary_matrix f r)) (range_with_len op.t3 op.c) in
     ap (map w) (internal_of_join f op l r ok)
     ∙ map-append w own _
     ∙ ap (λ x. map w own ++ x)
@@ -146,10 +135,10 @@ placed_of_join f op l r before after ok =
 pub collected_join : (f : Field) (op : Op) (l r : Tree) (before after : ℕ) (old second first new : List (List ℕ)) → IsValid f (Join op l r) →
     second ≡ old ++ reverse (placed_rows f (before + size l) after r) →
     first ≡ second ++ reverse (placed_rows f before (size r + after) l) →
-    new ≡ first ++ reverse (map (widened before after) (map (joined_row (record { f = f; op = op }) (part f l) (part f r)) (range_with_len op.t3 op.c))) →
+    new ≡ first ++ reverse (map (widened before after) (map (joined_row (record { f = f; op = op }) (boundary_matrix f l) (boundary_matrix f r)) (range_with_len op.t3 op.c))) →
     new ≡ old ++ reverse (placed_rows f before after (Join op l r))
 collected_join f op l r before after old second first new ok es ef en =
-    let own = map (widened before after) (map (joined_row (record { f = f; op = op }) (part f l) (part f r)) (range_with_len op.t3 op.c)) in
+    let own = map (widened before after) (map (joined_row (record { f = f; op = op }) (boundary_matrix f l) (boundary_matrix f r)) (range_with_len op.t3 op.c)) in
     let L = placed_rows f before (size r + after) l in
     let R = placed_rows f (before + size l) after r in
     en
@@ -164,7 +153,7 @@ collected_join f op l r before after old second first new ok es ef en =
 
 pub whole_rows : (f : Field) (T : Tree) →
     map (matrix_row f T) (range_with_len 0 (boundary T + internal T)) ≡ boundary_rows f T ++ placed_rows f 0 0 T
-unfolding boundary_rows internal_rows
+unfolding internal_rows
 whole_rows f T =
     let zero_b : 0 + boundary T ≡ boundary T + 0 = omega arith in
     split_range (matrix_row f T) 0 (boundary T) (internal T)
@@ -192,13 +181,13 @@ reversed_are f n (row ∷ rows) h =
     (All-append (λ v. IsVector f n v) (reverse rows) (row ∷ []) (reversed_are f n rows (λ i d l. h (suc i) d (omega arith)))
     (All-cons (λ v. IsVector f n v) row [] (h 0 [] (omega arith)) (All-nil (λ v. IsVector f n v))))
 
-pub collected_vectors : (f : Field) (T : Tree) (m : MatrixValue) (new : List (List ℕ)) → IsValid f T → m ≡ part f T →
+pub collected_vectors : (f : Field) (T : Tree) (m : MatrixValue) (new : List (List ℕ)) → IsValid f T → m ≡ boundary_matrix f T →
     new ≡ reverse (placed_rows f 0 0 T) → AreVectors m.f m.cols new
 collected_vectors f T m new ok em en =
     subst (λ (x : MatrixValue). AreVectors x.f x.cols new) (sym em)
     (subst (λ rows. AreVectors f (size T) rows) (sym en) (reversed_are f (size T) (placed_rows f 0 0 T) (placed_are f T ok)))
 
-pub collected_matrix : (f : Field) (T : Tree) (m whole : MatrixValue) (new : List (List ℕ)) → m ≡ part f T → new ≡ reverse (placed_rows f 0 0 T) →
+pub collected_matrix : (f : Field) (T : Tree) (m whole : MatrixValue) (new : List (List ℕ)) → m ≡ boundary_matrix f T → new ≡ reverse (placed_rows f 0 0 T) →
     whole ≡ record m { rows = m.rows ++ reverse new } →
     whole ≡ record { f = f; cols = size T; rows = map (matrix_row f T) (range_with_len 0 (boundary T + internal T)) }
 collected_matrix f T m whole new em en ew =

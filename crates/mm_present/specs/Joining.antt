@@ -3,11 +3,11 @@ use Rattle.std.specs.Prelude.{ℕ, ◌≡◌, ◌+◌, List, ◌++◌, length, m
 use Rattle.std.specs.List.{range_with_len}
 use Rattle.mm_field.specs.declared.Field.{Field}
 use Rattle.mm_field.specs.Vectors.{zeros, combination, AreVectors}
-use Rattle.mm_logic.specs.PresentMatrix.{columns, internal, internal_row}
-use Rattle.mm_logic.specs.Tree.{Tree, boundary}
+use Rattle.mm_logic.specs.PresentMatrix.{internal, internal_row, boundary_rows, row_of}
+use Rattle.mm_logic.specs.Tree.{Tree, size}
 use Rattle.mm_matrix.specs.MatrixValue.{MatrixValue}
 use Rattle.mm_ops.specs.OpValue.{OpValue}
-use Rattle.mm_present.specs.RowForm.{row_of, first_rows, in_join}
+use Rattle.mm_logic_laws.specs.MatrixLaws.{digits_at_join}
 use Rattle.mm_present.specs.declared.join_rows.Side.{Side}
 
 -- a row with zeros before and after it
@@ -26,9 +26,9 @@ side_row k side = combination side.rows.f side.rows.cols (row_of side.digits.now
 abbrev pub join_row : Side → Side → ℕ → List ℕ
 join_row left right k = side_row k left ++ side_row k right
 
--- the boundary rows of a tree
-unfoldable pub boundary_rows : Field → Tree → List (List ℕ)
-boundary_rows f T = first_rows (boundary T) (columns f T)
+-- the boundary rows of a tree over its elements
+abbrev pub boundary_matrix : Field → Tree → MatrixValue
+boundary_matrix f T = record { f = f; cols = size T; rows = boundary_rows f T }
 
 -- the internal rows of a tree
 unfoldable pub internal_rows : Field → Tree → List (List ℕ)
@@ -55,5 +55,5 @@ pub record IsSide (f : Field) (r : ℕ) (side : Side) : Type 0 where
 -- row k of a join of children with these boundary rows
 abbrev pub joined_row : OpValue → MatrixValue → MatrixValue → ℕ → List ℕ
 joined_row op left right k =
-    combination op.f left.cols (row_of (in_join op.f op.op op.op.g1) k) left.rows
-    ++ combination op.f right.cols (row_of (in_join op.f op.op op.op.g2) k) right.rows
+    combination op.f left.cols (row_of (digits_at_join op.f op.op op.op.g1) k) left.rows
+    ++ combination op.f right.cols (row_of (digits_at_join op.f op.op op.op.g2) k) right.rows

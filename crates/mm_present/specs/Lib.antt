@@ -1,4 +1,3 @@
-pub mod RowForm
 pub mod Comparing
 pub mod Bases
 pub mod Joining

@@ -7,7 +7,7 @@ ghost use Rattle.mm_tree.specs.NamedTree.{shape};
 ghost use Rattle.mm_tree.specs.Nodes.{named, named_leaf, IsOver};
 ghost use Rattle.mm_field.specs.Vectors.{AreDigits};
 ghost use Rattle.mm_logic.specs.Operator.{row_length};
-ghost use Rattle.mm_present.specs.Joining.{ArePart, IsSide, boundary_rows, placed_rows, join_row, joined_row, widened};
+ghost use Rattle.mm_present.specs.Joining.{ArePart, IsSide, boundary_matrix, placed_rows, join_row, joined_row, widened};
 
 use crate::join_cache::KnownOperators;
 use crate::join_rows::{Side, join_row};
@@ -22,7 +22,7 @@ use std::alloc::Global;
 /// The rows of one column.
 fn column(alloc: Global, f: Field, v: &Vector) -> Result<Matrix, NoMemory>
     requires { AreDigits f v.now }
-    ensures { IfOk result (λ m. m ≡ record { f = f; cols = 1; rows = boundary_rows f (shapes.Tree.Elem v.now) }) }
+    ensures { IfOk result (λ m. m ≡ boundary_matrix f (shapes.Tree.Elem v.now)) }
 {
     let mut rows = Matrix::new(alloc, f, 1);
     for k in 0..v.len() {
@@ -33,7 +33,7 @@ fn column(alloc: Global, f: Field, v: &Vector) -> Result<Matrix, NoMemory>
 
 /// So many rows without a column.
 fn no_columns(alloc: Global, f: Field, t: u8) -> Result<Matrix, NoMemory>
-    ensures { IfOk result (λ m. m ≡ record { f = f; cols = 0; rows = boundary_rows f (shapes.Tree.Void t) }) }
+    ensures { IfOk result (λ m. m ≡ boundary_matrix f (shapes.Tree.Void t)) }
 {
     let mut rows = Matrix::new(alloc, f, 0);
     for _ in 0..t {
@@ -45,7 +45,7 @@ fn no_columns(alloc: Global, f: Field, t: u8) -> Result<Matrix, NoMemory>
 /// The boundary rows of a leaf.
 fn leaf_rows(alloc: Global, f: Field, leaf: &Leaf) -> Result<Matrix, NoMemory>
     requires { shapes.IsValid f (shape (named_leaf leaf.now)) }
-    ensures { IfOk result (λ m. m ≡ record { f = f; cols = shapes.size (shape (named_leaf leaf.now)); rows = boundary_rows f (shape (named_leaf leaf.now)) }) }
+    ensures { IfOk result (λ m. m ≡ boundary_matrix f (shape (named_leaf leaf.now))) }
 {
     match &leaf.item {
         Some(item) => column(alloc, f, &item.vec),
@@ -140,7 +140,7 @@ pub(crate) fn collect(
     requires valid { shapes.IsValid f (shape (named node.now)) }
     requires few { total < 2 ^ 32 }
     requires room { shapes.size (shape (named node.now)) + after ≤ total }
-    ensures boundary { IfOk result (λ m. m ≡ record { f = f; cols = shapes.size (shape (named node.now)); rows = boundary_rows f (shape (named node.now)) }) }
+    ensures boundary { IfOk result (λ m. m ≡ boundary_matrix f (shape (named node.now))) }
     ensures internal { OnOk result ((before : ℕ) → before + (shapes.size (shape (named node.now)) + after) ≡ total →
         map (λ r. r.items) internal.new.items ≡ map (λ r. r.items) internal.old.items ++ reverse (placed_rows f before after (shape (named node.now)))) }
 {

@@ -7,7 +7,7 @@ ghost use Rattle.mm_linear.specs.Coordinates.{is_pivot, free_columns};
 ghost use Rattle.mm_logic.specs.Operator.{IsValidOp, row_length};
 ghost use Rattle.mm_logic.specs.PresentMatrix.{column_digits};
 ghost use Rattle.mm_present.specs.Bases.{IsBasisOf, augmented};
-ghost use Rattle.mm_present.specs.RowForm.{in_join};
+ghost use Rattle.mm_logic_laws.specs.MatrixLaws.{digits_at_join};
 
 use crate::vectors::{digits_of, negative_unit};
 use mm_base::NoMemory;
@@ -120,7 +120,7 @@ pub(crate) fn digits_in_join(
 ) -> Result<Matrix, NoMemory>
     requires basis { IsBasisOf op.now basis.now }
     requires rows { AreVectors op.now.f (row_length op.now.op) g.now }
-    ensures { IfOk result (λ m. m ≡ record { f = op.now.f; cols = row_length op.now.op; rows = in_join op.now.f op.now.op g.now }) }
+    ensures { IfOk result (λ m. m ≡ record { f = op.now.f; cols = row_length op.now.op; rows = digits_at_join op.now.f op.now.op g.now }) }
 {
     let mut rows = Matrix::new(alloc, op.field(), dimension(op));
     for k in 0..g.rows() {

@@ -5,9 +5,8 @@ use Rattle.mm_logic.specs.Tree as shapes
 use Rattle.mm_matrix.specs.MatrixValue.{MatrixValue}
 use Rattle.mm_tree.specs.NamedTree.{shape, nodes}
 use Rattle.mm_tree.specs.Nodes.{named, named_leaf, IsOver}
-use Rattle.mm_present.specs.Joining.{placed_rows, joined_row, widened}
+use Rattle.mm_present.specs.Joining.{placed_rows, joined_row, widened, boundary_matrix}
 use Rattle.mm_logic.specs.PresentMatrix.{internal}
-use Rattle.mm_present.proofs.TreeRows.{part}
 use Rattle.mm_present.proofs.NodeLemmas.{always_ok, at_join, part_is, join_part, join_collected, leaf_collected, leaf_internal, node_of_leaf, nodes_at_join}
 use Rattle.mm_present.proofs.collecting.+collect.Goals as goal
 
@@ -44,7 +43,7 @@ overflow_add-beyond t c =
     let R = shape (named c.in-Join.right.value) in
     let room = c.requires.room in
     let n : shapes.size (shape (named c.args.node.now)) ≡ shapes.size L + shapes.size R = ap shapes.size j.shape_is in
-    let second_is : c.in_ok-second-in-Join.second ≡ part f R = c.in_ok-second-in-Join.ensures.boundary ∙ ap (λ x. part f (shape (named x))) c.deref.ensures in
+    let second_is : c.in_ok-second-in-Join.second ≡ boundary_matrix f R = c.in_ok-second-in-Join.ensures.boundary ∙ ap (λ x. boundary_matrix f (shape (named x))) c.deref.ensures in
     let width : c.cols.result ≡ shapes.size R = c.cols.ensures ∙ ap (λ (m : MatrixValue). m.cols) second_is in
     let few = c.requires.few in
     omega arith
@@ -57,7 +56,7 @@ collect-requires-in-Join t c =
     let R = shape (named c.in-Join.right.value) in
     let room = c.requires.room in
     let n : shapes.size (shape (named c.args.node.now)) ≡ shapes.size L + shapes.size R = ap shapes.size j.shape_is in
-    let second_is : c.in_ok-second-in-Join.second ≡ part f R = c.in_ok-second-in-Join.ensures.boundary ∙ ap (λ x. part f (shape (named x))) c.deref.ensures in
+    let second_is : c.in_ok-second-in-Join.second ≡ boundary_matrix f R = c.in_ok-second-in-Join.ensures.boundary ∙ ap (λ x. boundary_matrix f (shape (named x))) c.deref.ensures in
     let width : c.cols.result ≡ shapes.size R = c.cols.ensures ∙ ap (λ (m : MatrixValue). m.cols) second_is in
     let m = nodes_at_join c.args.node.now c.in-Join.field-0 c.in-Join.op c.in-Join.left c.in-Join.right c.in-Join.is in
     let down = c.decreases in
@@ -80,7 +79,7 @@ overflow_sub-before t c =
     let R = shape (named c.in-Join.right.value) in
     let room = c.requires.room in
     let n : shapes.size (shape (named c.args.node.now)) ≡ shapes.size L + shapes.size R = ap shapes.size j.shape_is in
-    let second_is : c.in_ok-second-in-Join.second ≡ part f R = c.in_ok-second-in-Join.ensures.boundary ∙ ap (λ x. part f (shape (named x))) c.deref.ensures in
+    let second_is : c.in_ok-second-in-Join.second ≡ boundary_matrix f R = c.in_ok-second-in-Join.ensures.boundary ∙ ap (λ x. boundary_matrix f (shape (named x))) c.deref.ensures in
     let width : c.cols.result ≡ shapes.size R = c.cols.ensures ∙ ap (λ (m : MatrixValue). m.cols) second_is in
     omega arith
 
@@ -92,9 +91,9 @@ overflow_sub-before-in-Join t c =
     let R = shape (named c.in-Join.right.value) in
     let room = c.requires.room in
     let n : shapes.size (shape (named c.args.node.now)) ≡ shapes.size L + shapes.size R = ap shapes.size j.shape_is in
-    let second_is : c.in_ok-second-in-Join.second ≡ part f R = c.in_ok-second-in-Join.ensures.boundary ∙ ap (λ x. part f (shape (named x))) c.deref.ensures in
+    let second_is : c.in_ok-second-in-Join.second ≡ boundary_matrix f R = c.in_ok-second-in-Join.ensures.boundary ∙ ap (λ x. boundary_matrix f (shape (named x))) c.deref.ensures in
     let width : c.cols.result ≡ shapes.size R = c.cols.ensures ∙ ap (λ (m : MatrixValue). m.cols) second_is in
-    let first_is : c.in_ok-first-in-Join.first ≡ part f L = c.in_ok-first-in-Join.ensures.boundary ∙ ap (λ x. part f (shape (named x))) c.deref-in-Join.ensures in
+    let first_is : c.in_ok-first-in-Join.first ≡ boundary_matrix f L = c.in_ok-first-in-Join.ensures.boundary ∙ ap (λ x. boundary_matrix f (shape (named x))) c.deref-in-Join.ensures in
     let width_left : c.cols-in-Join.result ≡ shapes.size L = c.cols-in-Join.ensures ∙ ap (λ (m : MatrixValue). m.cols) first_is in
     omega arith
 
@@ -106,7 +105,7 @@ join_rows-requires-clause-left t c =
     let R = shape (named c.in-Join.right.value) in
     let room = c.requires.room in
     let n : shapes.size (shape (named c.args.node.now)) ≡ shapes.size L + shapes.size R = ap shapes.size j.shape_is in
-    let first_is : c.in_ok-first-in-Join.first ≡ part f L = c.in_ok-first-in-Join.ensures.boundary ∙ ap (λ x. part f (shape (named x))) c.deref-in-Join.ensures in
+    let first_is : c.in_ok-first-in-Join.first ≡ boundary_matrix f L = c.in_ok-first-in-Join.ensures.boundary ∙ ap (λ x. boundary_matrix f (shape (named x))) c.deref-in-Join.ensures in
     part_is f c.in-Join.op L c.in-Join.op.op.t1 c.in_ok-first-in-Join.first j.field first_is j.valid.3 j.valid.1
 
 pub join_rows-requires-clause-right : goal.join_rows-requires-clause-right
@@ -117,7 +116,7 @@ join_rows-requires-clause-right t c =
     let R = shape (named c.in-Join.right.value) in
     let room = c.requires.room in
     let n : shapes.size (shape (named c.args.node.now)) ≡ shapes.size L + shapes.size R = ap shapes.size j.shape_is in
-    let second_is : c.in_ok-second-in-Join.second ≡ part f R = c.in_ok-second-in-Join.ensures.boundary ∙ ap (λ x. part f (shape (named x))) c.deref.ensures in
+    let second_is : c.in_ok-second-in-Join.second ≡ boundary_matrix f R = c.in_ok-second-in-Join.ensures.boundary ∙ ap (λ x. boundary_matrix f (shape (named x))) c.deref.ensures in
     let width : c.cols.result ≡ shapes.size R = c.cols.ensures ∙ ap (λ (m : MatrixValue). m.cols) second_is in
     part_is f c.in-Join.op R c.in-Join.op.op.t2 c.in_ok-second-in-Join.second j.field second_is j.valid.4 j.valid.2
 
@@ -129,9 +128,9 @@ join_rows-requires-clause-room t c =
     let R = shape (named c.in-Join.right.value) in
     let room = c.requires.room in
     let n : shapes.size (shape (named c.args.node.now)) ≡ shapes.size L + shapes.size R = ap shapes.size j.shape_is in
-    let second_is : c.in_ok-second-in-Join.second ≡ part f R = c.in_ok-second-in-Join.ensures.boundary ∙ ap (λ x. part f (shape (named x))) c.deref.ensures in
+    let second_is : c.in_ok-second-in-Join.second ≡ boundary_matrix f R = c.in_ok-second-in-Join.ensures.boundary ∙ ap (λ x. boundary_matrix f (shape (named x))) c.deref.ensures in
     let width : c.cols.result ≡ shapes.size R = c.cols.ensures ∙ ap (λ (m : MatrixValue). m.cols) second_is in
-    let first_is : c.in_ok-first-in-Join.first ≡ part f L = c.in_ok-first-in-Join.ensures.boundary ∙ ap (λ x. part f (shape (named x))) c.deref-in-Join.ensures in
+    let first_is : c.in_ok-first-in-Join.first ≡ boundary_matrix f L = c.in_ok-first-in-Join.ensures.boundary ∙ ap (λ x. boundary_matrix f (shape (named x))) c.deref-in-Join.ensures in
     let width_left : c.cols-in-Join.result ≡ shapes.size L = c.cols-in-Join.ensures ∙ ap (λ (m : MatrixValue). m.cols) first_is in
     let few = c.requires.few in
     let a : c.in_ok-first-in-Join.first.cols ≡ shapes.size L = ap (λ (m : MatrixValue). m.cols) first_is in
@@ -141,7 +140,7 @@ join_rows-requires-clause-room t c =
 pub returns-in-Leaf-clause-boundary : goal.returns-in-Leaf-clause-boundary
 returns-in-Leaf-clause-boundary t c =
     let f = c.args.f in
-    IfOk-weaker c.leaf_rows.result (λ (m : MatrixValue). m ≡ part f (shape (named_leaf c.in-Leaf.leaf))) (λ (m : MatrixValue). m ≡ part f (shape (named c.args.node.now))) (λ m e. e ∙ ap (λ x. part f (shape x)) (sym (node_of_leaf c.args.node.now c.in-Leaf.leaf c.in-Leaf.is))) c.leaf_rows.ensures
+    IfOk-weaker c.leaf_rows.result (λ (m : MatrixValue). m ≡ boundary_matrix f (shape (named_leaf c.in-Leaf.leaf))) (λ (m : MatrixValue). m ≡ boundary_matrix f (shape (named c.args.node.now))) (λ m e. e ∙ ap (λ x. boundary_matrix f (shape x)) (sym (node_of_leaf c.args.node.now c.in-Leaf.leaf c.in-Leaf.is))) c.leaf_rows.ensures
 
 pub returns-in-Leaf-clause-internal : goal.returns-in-Leaf-clause-internal
 returns-in-Leaf-clause-internal t c =
@@ -161,14 +160,14 @@ returns-in_ok-first-in-Join-clause-boundary t c =
     let R = shape (named c.in-Join.right.value) in
     let room = c.requires.room in
     let n : shapes.size (shape (named c.args.node.now)) ≡ shapes.size L + shapes.size R = ap shapes.size j.shape_is in
-    let second_is : c.in_ok-second-in-Join.second ≡ part f R = c.in_ok-second-in-Join.ensures.boundary ∙ ap (λ x. part f (shape (named x))) c.deref.ensures in
+    let second_is : c.in_ok-second-in-Join.second ≡ boundary_matrix f R = c.in_ok-second-in-Join.ensures.boundary ∙ ap (λ x. boundary_matrix f (shape (named x))) c.deref.ensures in
     let width : c.cols.result ≡ shapes.size R = c.cols.ensures ∙ ap (λ (m : MatrixValue). m.cols) second_is in
-    let first_is : c.in_ok-first-in-Join.first ≡ part f L = c.in_ok-first-in-Join.ensures.boundary ∙ ap (λ x. part f (shape (named x))) c.deref-in-Join.ensures in
+    let first_is : c.in_ok-first-in-Join.first ≡ boundary_matrix f L = c.in_ok-first-in-Join.ensures.boundary ∙ ap (λ x. boundary_matrix f (shape (named x))) c.deref-in-Join.ensures in
     let op = c.in-Join.op in
     let first = c.in_ok-first-in-Join.first in
     let second = c.in_ok-second-in-Join.second in
     let T = shape (named c.args.node.now) in
-    IfOk-weaker c.join_rows.result (λ (m : MatrixValue). m ≡ record { f = op.f; cols = first.cols + second.cols; rows = map (joined_row op first second) (range_with_len 0 op.op.t3) }) (λ (m : MatrixValue). m ≡ part f T)
+    IfOk-weaker c.join_rows.result (λ (m : MatrixValue). m ≡ record { f = op.f; cols = first.cols + second.cols; rows = map (joined_row op first second) (range_with_len 0 op.op.t3) }) (λ (m : MatrixValue). m ≡ boundary_matrix f T)
     (λ m e. join_part f op T L R first second m j.field j.shape_is j.valid first_is second_is e)
     c.join_rows.ensures.boundary
 
@@ -180,9 +179,9 @@ returns-in_ok-first-in-Join-clause-internal t c =
     let R = shape (named c.in-Join.right.value) in
     let room = c.requires.room in
     let n : shapes.size (shape (named c.args.node.now)) ≡ shapes.size L + shapes.size R = ap shapes.size j.shape_is in
-    let second_is : c.in_ok-second-in-Join.second ≡ part f R = c.in_ok-second-in-Join.ensures.boundary ∙ ap (λ x. part f (shape (named x))) c.deref.ensures in
+    let second_is : c.in_ok-second-in-Join.second ≡ boundary_matrix f R = c.in_ok-second-in-Join.ensures.boundary ∙ ap (λ x. boundary_matrix f (shape (named x))) c.deref.ensures in
     let width : c.cols.result ≡ shapes.size R = c.cols.ensures ∙ ap (λ (m : MatrixValue). m.cols) second_is in
-    let first_is : c.in_ok-first-in-Join.first ≡ part f L = c.in_ok-first-in-Join.ensures.boundary ∙ ap (λ x. part f (shape (named x))) c.deref-in-Join.ensures in
+    let first_is : c.in_ok-first-in-Join.first ≡ boundary_matrix f L = c.in_ok-first-in-Join.ensures.boundary ∙ ap (λ x. boundary_matrix f (shape (named x))) c.deref-in-Join.ensures in
     let width_left : c.cols-in-Join.result ≡ shapes.size L = c.cols-in-Join.ensures ∙ ap (λ (m : MatrixValue). m.cols) first_is in
     let op = c.in-Join.op in
     let first = c.in_ok-first-in-Join.first in

@@ -1,7 +1,7 @@
 use Rattle.std.proofs.Common.{◌≡◌, ◌<◌, ◌+◌, map, [], refl, sym, ap, ◌∙◌, arith}
 use Rattle.std.specs.List.{range_with_len}
 use Rattle.mm_logic.specs.Tree as shapes
-use Rattle.mm_present.specs.Joining.{boundary_rows}
+use Rattle.mm_logic.specs.PresentMatrix.{boundary_rows}
 use Rattle.mm_present.proofs.GrowLemmas.{row_pushed, row_fits, rows_done}
 use Rattle.std.proofs.lemmas.List.Elements.{All-nil}
 use Rattle.std.proofs.lemmas.List.FromFn.{map-range_with_len_more}

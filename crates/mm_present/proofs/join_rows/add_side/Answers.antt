@@ -3,7 +3,7 @@ use Rattle.std.proofs.lemmas.List.{length-map, get_or-map}
 use Rattle.std.proofs.lemmas.List.Elements.{All-drop}
 use Rattle.mm_field.specs.Vectors.{AreDigits, IsVector, vector_sum, multiple}
 use Rattle.mm_field.proofs.CombinationLemmas.{IsVector-combination}
-use Rattle.mm_present.specs.RowForm.{row_of}
+use Rattle.mm_logic.specs.PresentMatrix.{row_of}
 use Rattle.mm_present.proofs.join_rows.add_side.Goals as goal
 use Rattle.mm_space.proofs.Gathering.{times_start, times_step}
 

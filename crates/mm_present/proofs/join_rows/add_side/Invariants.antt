@@ -1,6 +1,6 @@
 use Rattle.std.proofs.Common.{◌≡◌, ◌≤◌, length, drop}
 use Rattle.mm_field.specs.Vectors.{combination}
-use Rattle.mm_present.specs.RowForm.{row_of}
+use Rattle.mm_logic.specs.PresentMatrix.{row_of}
 use Rattle.mm_present.proofs.join_rows.add_side.Given as goal
 
 abbrev pub invariant-loop-i : goal.invariant-loop-i

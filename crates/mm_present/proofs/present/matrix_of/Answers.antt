@@ -3,8 +3,8 @@ use Rattle.mm_logic.specs.Tree as shapes
 use Rattle.mm_tree.specs.NamedTree.{shape}
 use Rattle.mm_tree.specs.Nodes.{named, IsOver}
 use Rattle.mm_present.specs.Comparing.{present_rows}
-use Rattle.mm_present.specs.Joining.{placed_rows}
-use Rattle.mm_present.proofs.TreeRows.{part, collected_vectors, collected_matrix}
+use Rattle.mm_present.specs.Joining.{placed_rows, boundary_matrix}
+use Rattle.mm_present.proofs.TreeRows.{collected_vectors, collected_matrix}
 use Rattle.mm_tree.proofs.ElementLemmas.{count_elements, few_elements}
 use Rattle.mm_present.proofs.present.matrix_of.Goals as goal
 
@@ -49,7 +49,7 @@ stack-requires c =
     let field : c.field.result ≡ f = c.field.ensures in
     let tree : shape (named c.node.result.now) ≡ T = ap shape c.node.ensures.tree in
     let count : c.len.result ≡ shapes.size T = c.len.ensures ∙ ap length c.in_ok-names.ensures.names ∙ count_elements c.args.tree.now.tree in
-    let boundary : c.in_ok-boundary.boundary ≡ part f T = c.in_ok-boundary.ensures.boundary ∙ ap₂ (λ g S. part g S) field tree in
+    let boundary : c.in_ok-boundary.boundary ≡ boundary_matrix f T = c.in_ok-boundary.ensures.boundary ∙ ap₂ (λ g S. boundary_matrix g S) field tree in
     let new = map (λ r. r.items) c.collect.new.internal.items in
     let room : 0 + (shapes.size (shape (named c.node.result.now)) + 0) ≡ c.len.result = omega (arith, ap shapes.size tree, count) in
     let rows : new ≡ reverse (placed_rows f 0 0 T) =
@@ -66,7 +66,7 @@ returns-clause-rows c =
     let field : c.field.result ≡ f = c.field.ensures in
     let tree : shape (named c.node.result.now) ≡ T = ap shape c.node.ensures.tree in
     let count : c.len.result ≡ shapes.size T = c.len.ensures ∙ ap length c.in_ok-names.ensures.names ∙ count_elements c.args.tree.now.tree in
-    let boundary : c.in_ok-boundary.boundary ≡ part f T = c.in_ok-boundary.ensures.boundary ∙ ap₂ (λ g S. part g S) field tree in
+    let boundary : c.in_ok-boundary.boundary ≡ boundary_matrix f T = c.in_ok-boundary.ensures.boundary ∙ ap₂ (λ g S. boundary_matrix g S) field tree in
     let new = map (λ r. r.items) c.collect.new.internal.items in
     let room : 0 + (shapes.size (shape (named c.node.result.now)) + 0) ≡ c.len.result = omega (arith, ap shapes.size tree, count) in
     let rows : new ≡ reverse (placed_rows f 0 0 T) =

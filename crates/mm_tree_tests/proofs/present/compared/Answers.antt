@@ -3,7 +3,7 @@ use Rattle.std.specs.List.{IsDistinct}
 use Rattle.std.specs.Str.{bytes_eq}
 use Rattle.mm_base.specs.contracts.name.NamePartialEq.TheImpl.{eq-value}
 use Rattle.mm_present.proofs.CompareLemmas.{three_different}
-use Rattle.mm_unit_tests.proofs.present.compared.Goals as goal
+use Rattle.mm_tree_tests.proofs.present.compared.Goals as goal
 
 pub compare-requires-clause-different : goal.compare-requires-clause-different
 compare-requires-clause-different c =

@@ -1,7 +1,7 @@
 use Rattle.std.proofs.Common.{◌≡◌, [], length, sym, arith, ◌∙◌}
 use Rattle.std.proofs.lemmas.List.Elements.{All-from_get_or}
 use Rattle.mm_field.specs.Vectors.{IsVector}
-use Rattle.mm_unit_tests.proofs.space.matrix.Goals as goal
+use Rattle.mm_algebra_tests.proofs.space.matrix.Goals as goal
 
 pub returns-after-loop-k : goal.returns-after-loop-k
 returns-after-loop-k c =
