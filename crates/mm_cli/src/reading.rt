@@ -89,7 +89,8 @@ fn read_pieces<S: Source, K: Sink, L: Ledger>(
     requires left { start.left ≡ S.left source.old }
     requires held { start.held ≡ K.held sink.old }
     ensures stopped { IfSome result (λ s. Ran job.old.limit start.left (S.left source.new) start.held (K.held sink.new) s) }
-    ensures all { IfNone result ((job.new.live ≡ true) × IsRead job.old.limit start.left (S.left source.new) start.held (K.held sink.new) job.new) }
+    ensures all { IfNone result ((job.new.live ≡ true)
+        × IsRead job.old.limit start.left (S.left source.new) start.held (K.held sink.new) job.new) }
     ensures read_fault { result ≡ Some ends.ReadFault → Rose (S.faults source.old) (S.faults source.new) }
     ensures write_later { K.faults sink.old ≤ K.faults sink.new }
     ensures write_fault { result ≡ Some ends.WriteFault → Rose (K.faults sink.old) (K.faults sink.new) }

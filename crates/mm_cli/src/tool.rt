@@ -44,7 +44,8 @@ pub fn top<S: Source, K: Sink, L: Ledger>(
         Ran limit (S.left source.old) (S.left source.new) (K.held sink.old) (K.held sink.new) result }
 
     // Other words give one line, and nothing is read.
-    ensures not_built { asked words.now.items ≡ Some NotBuilt → WritesLine not_built_line ends.Refused (K.held sink.old) (K.held sink.new) result }
+    ensures not_built { asked words.now.items ≡ Some NotBuilt →
+        WritesLine not_built_line ends.Refused (K.held sink.old) (K.held sink.new) result }
     ensures usage { asked words.now.items ≡ None → WritesLine usage_line ends.Usage (K.held sink.old) (K.held sink.new) result }
     ensures usage_words { result ≡ ends.Usage → asked words.now.items ≡ None }
     ensures unread { ((limit : ℕ) → asked words.now.items ≡ Some (Run limit) → ⊥) → source.new ≡ source.old }

@@ -121,7 +121,8 @@ impl OneTable {
         requires { one_cells self.old.values + room < 2 ^ 32 }
         ensures mark { self.new.mark ≡ self.old.mark }
         ensures kept { take self.old.mark self.new.values ≡ take self.old.mark self.old.values }
-        ensures answer { Puts (one_of key.now) (has_one self.old.values (one_of key.now)) (suc (length key.now.members)) self.old.values self.new.values room result }
+        ensures answer { Puts (one_of key.now) (has_one self.old.values (one_of key.now)) (suc (length key.now.members))
+            self.old.values self.new.values room result }
     {
         self.table.put(alloc, key, room)
     }

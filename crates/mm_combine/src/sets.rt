@@ -82,7 +82,8 @@ impl SetTable {
         requires { set_cells self.old.values + room < 2 ^ 32 }
         ensures mark { self.new.mark ≡ self.old.mark }
         ensures kept { take self.old.mark self.new.values ≡ take self.old.mark self.old.values }
-        ensures answer { Puts members.now (has_set self.old.values members.now) (suc (length members.now)) self.old.values self.new.values room result }
+        ensures answer { Puts members.now (has_set self.old.values members.now) (suc (length members.now))
+            self.old.values self.new.values room result }
     {
         self.table.put(alloc, members, room)
     }

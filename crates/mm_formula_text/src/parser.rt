@@ -106,7 +106,8 @@ impl Stack {
     }
 
     fn pop(&mut self) -> Option<Frame>
-        ensures { MatchOption result ((frames_of self.old ≡ []) × (frames_of self.new ≡ [])) (λ frame. frames_of self.old ≡ frame_of frame ∷ frames_of self.new) }
+        ensures { MatchOption result ((frames_of self.old ≡ []) × (frames_of self.new ≡ []))
+            (λ frame. frames_of self.old ≡ frame_of frame ∷ frames_of self.new) }
     {
         self.frames.pop()
     }

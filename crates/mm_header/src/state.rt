@@ -3,8 +3,8 @@ ghost use Rattle.std.specs.Prelude.{◌≡◌, ◌∷◌, [], List, IfOk, true, 
 ghost use Rattle.std.specs.List.{IsDistinct};
 ghost use Rattle.std.specs.Str.{bytes_eq};
 ghost use Rattle.mm_lines.specs.declared.line.Line.{Line as LineOf};
-ghost use Rattle.mm_header.specs.Header.{elements_part, field_part, ops_part, parts, rows_part, tree_part_of};
-ghost use Rattle.mm_header.specs.State.HeaderStates.{IsHeader, IsKept, IsKeptAfter, elements_value, header_value, parts_after, parts_from};
+ghost use Rattle.mm_header.specs.Header.{field_part, ops_part, parts, rows_part};
+ghost use Rattle.mm_header.specs.State.HeaderStates.{IsHeader, IsKept, IsKeptAfter, elements_from, header_value, parts_after, parts_from, tree_from};
 ghost use Rattle.mm_header.specs.declared.rules.HeaderRules.{HeaderRules as RulesOf};
 ghost use Rattle.mm_job_text.specs.Arguments.{begins};
 ghost use Rattle.mm_job_text.specs.Becoming.{Goes};
@@ -90,7 +90,7 @@ fn take_format(line: &Line) -> Result<Format, Stop>
 fn take_field(alloc: Global, format: Format, line: &Line) -> Result<Elements, Stop>
     ensures different { IfOk result (λ e. IsDistinct bytes_eq e.names) }
     ensures goes { (rules : RulesOf) (rs : List LineOf) →
-        Goes result (field_part rules format (line.now ∷ rs)) (λ e. elements_part rules (elements_value e) rs) }
+        Goes result (field_part rules format (line.now ∷ rs)) (λ e. elements_from rules e rs) }
 {
     if let Some(refusal) = too_long(line) {
         return Err(Stop::Refused(refusal));
@@ -115,7 +115,7 @@ fn take_elements(
     requires different { IsDistinct bytes_eq elements.old.names }
     ensures different { IfOk result (λ u. IsDistinct bytes_eq elements.new.names) }
     ensures goes { (rs : List LineOf) →
-        Goes result (elements_part rules (elements_value elements.old) (line.now ∷ rs)) (λ u. elements_part rules (elements_value elements.new) rs) }
+        Goes result (elements_from rules elements.old (line.now ∷ rs)) (λ u. elements_from rules elements.new rs) }
 {
     add_elements(alloc, rules.names, &mut elements.names, line)
 }
@@ -129,7 +129,7 @@ impl Elements {
         ensures header { IfOk result IsHeader }
         ensures ops { IfOk result (λ h. h.ops ≡ []) }
         ensures same { IfOk result (λ h. (rules : RulesOf) (rs : List LineOf) →
-            elements_part rules (elements_value self) (line.now ∷ rs) ≡ rows_part rules (header_value h) (line.now ∷ rs)) }
+            elements_from rules self (line.now ∷ rs) ≡ rows_part rules (header_value h) (line.now ∷ rs)) }
     {
         let Elements {
             format,
@@ -185,7 +185,7 @@ fn take_operator(alloc: Global, header: &mut HeaderData, line: &Line) -> Result<
 fn take_tree(header: &HeaderData, line: &Line) -> Result<(), Stop>
     requires begins { begins (codes "op") line.now ≡ false }
     ensures { (rules : RulesOf) (rs : List LineOf) →
-        Goes result (ops_part rules (header_value header.now) (line.now ∷ rs)) (λ u. tree_part_of rules (header_value header.now) [] rs) }
+        Goes result (ops_part rules (header_value header.now) (line.now ∷ rs)) (λ u. tree_from rules header.now [] rs) }
 {
     if let Some(refusal) = too_long(line) {
         return Err(Stop::Refused(refusal));
@@ -207,7 +207,7 @@ fn take_part(
     requires field { trees.old.f ≡ header.now.field }
     ensures field { trees.new.f ≡ trees.old.f }
     ensures goes { (rs : List LineOf) →
-        Goes result (tree_part_of rules (header_value header.now) trees.old.trees (line.now ∷ rs)) (λ u. tree_part_of rules (header_value header.now) trees.new.trees rs) }
+        Goes result (tree_from rules header.now trees.old.trees (line.now ∷ rs)) (λ u. tree_from rules header.now trees.new.trees rs) }
 {
     trees.take(alloc, rules.leaves, header.field, &header.ops, line)
 }
@@ -218,7 +218,7 @@ fn take_end(header: &HeaderData, trees: Trees, line: &Line) -> Result<Tree, Stop
     requires part { is_tree_part line.now ≡ false }
     ensures field { IfOk result (λ t. t.f ≡ trees.f) }
     ensures goes { (rules : RulesOf) (rs : List LineOf) →
-        Goes result (tree_part_of rules (header_value header.now) trees.trees (line.now ∷ rs)) (λ t. Read (header_value header.now, t.tree) rs) }
+        Goes result (tree_from rules header.now trees.trees (line.now ∷ rs)) (λ t. Read (header_value header.now, t.tree) rs) }
 {
     if let Some(refusal) = too_long(line) {
         return Err(Stop::Refused(refusal));
@@ -238,7 +238,7 @@ fn take_tree_line(
     requires field { trees.f ≡ header.field }
     ensures kept { IfOk result IsKeptAfter }
     ensures goes { (rs : List LineOf) →
-        Goes result (tree_part_of rules (header_value header) trees.trees (line.now ∷ rs)) (λ s. parts_after rules s rs) }
+        Goes result (tree_from rules header trees.trees (line.now ∷ rs)) (λ s. parts_after rules s rs) }
 {
     if is_tree_part(line) {
         let mut trees = trees;
@@ -303,7 +303,7 @@ fn take_names(
     requires { IsDistinct bytes_eq elements.names }
     ensures kept { IfOk result IsKeptAfter }
     ensures goes { (rs : List LineOf) →
-        Goes result (elements_part rules (elements_value elements) (line.now ∷ rs)) (λ s. parts_after rules s rs) }
+        Goes result (elements_from rules elements (line.now ∷ rs)) (λ s. parts_after rules s rs) }
 {
     if begins(line, b"elements") {
         let mut elements = elements;

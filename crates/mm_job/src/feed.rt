@@ -7,7 +7,7 @@ ghost use Rattle.mm_base.specs.Causes.{GrowsByFront};
 ghost use Rattle.mm_job.specs.Calls.{Writes};
 ghost use Rattle.mm_job.specs.State.Blocks.{written};
 ghost use Rattle.mm_job.specs.State.JobStates.{come_to, status_at};
-ghost use Rattle.mm_job.specs.State.Feeding.{Fed, FedLine, GrewByFrontOfPiece, GrewByPiece, IsWithin, last_lines, left};
+ghost use Rattle.mm_job.specs.State.Feeding.{Fed, FedLine, GrewByFrontOfPiece, GrewByPiece, IsWithin, last_lines, last_text, left};
 ghost use Rattle.mm_job.specs.Jobs.{HasJobCause};
 ghost use Rattle.mm_job.specs.Output.{Ending, More, Over, end_of, output, printed, printed_all, status_of, written_lines};
 ghost use Rattle.mm_job.specs.State.Standing.{IsRead, Stands, written_at};
@@ -153,9 +153,9 @@ fn end_state<K: Sink>(
     out: &mut K,
 ) -> Result<Status, JobFault>
     ensures status { IfOk result (λ s. (limit : ℕ) → s ≡ status_at (come_to state.now.status (last_lines limit state.now.stage over))) }
-    ensures wrote { OnOk result ((limit : ℕ) → Appends (K.held out.old) (K.held out.new) (printed_all (last_lines limit state.now.stage over))) }
+    ensures wrote { OnOk result ((limit : ℕ) → Appends (K.held out.old) (K.held out.new) (last_text limit state.now.stage over)) }
     ensures front { OnErr result ((limit : ℕ) →
-        GrowsByFront (K.held out.old) (K.held out.new) (printed_all (last_lines limit state.now.stage over))) }
+        GrowsByFront (K.held out.old) (K.held out.new) (last_text limit state.now.stage over)) }
     ensures cause { HasJobCause (K.faults out.old) (K.faults out.new) result }
 {
     let output_line = last_output_line(&state.stage, over);

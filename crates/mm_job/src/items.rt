@@ -47,7 +47,8 @@ fn compare_present(alloc: Global, session: &Session, given: &Named) -> Result<Ou
 fn compare_names(alloc: Global, session: &Session, names: &NameSet) -> Result<OutputLine, NoMemory>
     requires tree { session.now.tree.f ≡ session.now.field }
     requires different { IsDistinct bytes_eq names.now }
-    ensures { IfOk result (λ output_line. output_line ≡ comparison_line (session_of session.now) (record { names = names.now; rows = [] })) }
+    ensures { IfOk result (λ output_line. output_line ≡
+        comparison_line (session_of session.now) (record { names = names.now; rows = [] })) }
 {
     let rows = Matrix::new(alloc, session.field, names.len());
     let names = names.to_list(alloc)?;

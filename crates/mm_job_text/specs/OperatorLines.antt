@@ -1,6 +1,7 @@
 -- The lines of a header that give the operators.
 use Rattle.std.specs.Prelude.{ℕ, ◌+◌, List, [], ◌∷◌, ◌++◌, map, All, Option, Some, None, Ok}
 use Rattle.std.specs.declared.result.Result.{Result}
+use Rattle.std.specs.Option.{option_map}
 use Rattle.std.specs.List.{range_with_len}
 use Rattle.mm_base.specs.Names.{is_name}
 use Rattle.mm_field.specs.declared.Field.{Field}
@@ -39,17 +40,17 @@ pub record OperatorTokens : Type 0 where
   pub g2 : List ℕ
   pub g3 : Option (List ℕ)
 
-abbrev pub seven_of : List (List ℕ) → Option OperatorTokens
-seven_of (name ∷ t1 ∷ t2 ∷ t3 ∷ c ∷ g1 ∷ g2 ∷ []) = Some (record { name = name; t1 = t1; t2 = t2; t3 = t3; c = c; g1 = g1; g2 = g2; g3 = None })
-seven_of ts = None
+-- The third matrix among the tokens that are left, which are no more: format 2 has one.
+abbrev pub third_of : Format → List (List ℕ) → Option (Option (List ℕ))
+third_of format.One [] = Some None
+third_of format.Two (g3 ∷ []) = Some (Some g3)
+third_of version ts = None
 
-abbrev pub eight_of : List (List ℕ) → Option OperatorTokens
-eight_of (name ∷ t1 ∷ t2 ∷ t3 ∷ c ∷ g1 ∷ g2 ∷ g3 ∷ []) = Some (record { name = name; t1 = t1; t2 = t2; t3 = t3; c = c; g1 = g1; g2 = g2; g3 = Some g3 })
-eight_of ts = None
-
+-- The tokens after the word `op`, as many as the format has.
 abbrev pub operator_tokens : Format → List (List ℕ) → Option OperatorTokens
-operator_tokens format.One ts = seven_of ts
-operator_tokens format.Two ts = eight_of ts
+operator_tokens version (name ∷ t1 ∷ t2 ∷ t3 ∷ c ∷ g1 ∷ g2 ∷ ts) =
+    option_map (λ g3. record { name = name; t1 = t1; t2 = t2; t3 = t3; c = c; g1 = g1; g2 = g2; g3 = g3 }) (third_of version ts)
+operator_tokens version ts = None
 
 -- The third matrix, where it is written.
 abbrev pub third_matrix : Field → Option (List ℕ) → Refusal → Result ThirdMatrix Refusal

@@ -35,7 +35,8 @@ fn shown(alloc: Global, f: Field, bytes: &[u8]) -> Result<Vec<u8>, NoMemory>
 
 /// The digits that a token shows, any number of them, and `-` for none.
 pub fn read_digits(alloc: Global, f: Field, bytes: &[u8]) -> Result<Option<Vec<u8>>, NoMemory>
-    ensures shown { IfOk result (λ digits. MatchOption digits (digits_of f bytes.now ≡ None) (λ ds. digits_of f bytes.now ≡ Some ds.items)) }
+    ensures shown { IfOk result (λ digits.
+        MatchOption digits (digits_of f bytes.now ≡ None) (λ ds. digits_of f bytes.now ≡ Some ds.items)) }
     ensures digits { IfOk result (λ digits. IfSome digits (λ ds. AreDigits f ds.items)) }
 {
     if bytes == b"-".as_slice() {

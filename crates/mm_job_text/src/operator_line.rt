@@ -1,6 +1,6 @@
 //! The lines of operators, each by itself.
 ghost use Rattle.std.specs.Prelude.{◌≡◌, MatchOption, Some, None, option_copied, IfOk};
-ghost use Rattle.mm_job_text.specs.OperatorLines.{HasDigits, HasThirdDigits, eight_of, operator_fields, operator_tokens, seven_of, shown, third_matrix};
+ghost use Rattle.mm_job_text.specs.OperatorLines.{HasDigits, HasThirdDigits, operator_fields, operator_tokens, shown, third_matrix, third_of};
 ghost use Rattle.mm_job_text.specs.OperatorTokens.{tokens_of};
 
 use crate::arguments::args;
@@ -54,69 +54,37 @@ struct Written<'a> {
     g3: Option<&'a [u8]>,
 }
 
-/// The seven tokens that are left.
-fn seven<'a>(tokens: Tokens<'a>) -> Option<Written<'a>>
-    ensures { MatchOption result (seven_of tokens.entry ≡ None) (λ w. seven_of tokens.entry ≡ Some (tokens_of w)) }
+/// The third matrix, where the format has one, if no token is left after it.
+fn third<'a>(format: Format, tokens: Tokens<'a>) -> Option<Option<&'a [u8]>>
+    ensures { MatchOption result (third_of format tokens.entry ≡ None) (λ g3. third_of format tokens.entry ≡ Some (option_copied g3)) }
 {
     let mut tokens = tokens;
-    let name = tokens.next()?;
-    let t1 = tokens.next()?;
-    let t2 = tokens.next()?;
-    let t3 = tokens.next()?;
-    let c = tokens.next()?;
-    let g1 = tokens.next()?;
-    let g2 = tokens.next()?;
+    let g3 = match format {
+        Format::One => None,
+        Format::Two => Some(tokens.next()?),
+    };
     match tokens.next() {
-        None => Some(Written {
-            name,
-            t1,
-            t2,
-            t3,
-            c,
-            g1,
-            g2,
-            g3: None,
-        }),
-        Some(_) => None,
-    }
-}
-
-/// The eight tokens that are left.
-fn eight<'a>(tokens: Tokens<'a>) -> Option<Written<'a>>
-    ensures { MatchOption result (eight_of tokens.entry ≡ None) (λ w. eight_of tokens.entry ≡ Some (tokens_of w)) }
-{
-    let mut tokens = tokens;
-    let name = tokens.next()?;
-    let t1 = tokens.next()?;
-    let t2 = tokens.next()?;
-    let t3 = tokens.next()?;
-    let c = tokens.next()?;
-    let g1 = tokens.next()?;
-    let g2 = tokens.next()?;
-    let g3 = tokens.next()?;
-    match tokens.next() {
-        None => Some(Written {
-            name,
-            t1,
-            t2,
-            t3,
-            c,
-            g1,
-            g2,
-            g3: Some(g3),
-        }),
+        None => Some(g3),
         Some(_) => None,
     }
 }
 
 /// The tokens after the word `op`, as many as the format has.
 fn operator_tokens<'a>(format: Format, tokens: Tokens<'a>) -> Option<Written<'a>>
-    ensures { MatchOption result (operator_tokens format tokens.entry ≡ None) (λ w. operator_tokens format tokens.entry ≡ Some (tokens_of w)) }
+    ensures { MatchOption result (operator_tokens format tokens.entry ≡ None)
+        (λ w. operator_tokens format tokens.entry ≡ Some (tokens_of w)) }
 {
-    match format {
-        Format::One => seven(tokens),
-        Format::Two => eight(tokens),
-    }
+    let mut tokens = tokens;
+    Some(Written {
+        name: tokens.next()?,
+        t1: tokens.next()?,
+        t2: tokens.next()?,
+        t3: tokens.next()?,
+        c: tokens.next()?,
+        g1: tokens.next()?,
+        g2: tokens.next()?,
+        g3: third(format, tokens)?,
+    })
 }
 
 /// What the tokens show, if they do.

@@ -45,7 +45,8 @@ struct NamedOp {
 fn named_operator(f: Field, number: u32, fields: OperatorLine) -> Result<NamedOp, Refusal>
     requires { HasDigits f fields }
     ensures { MatchResult result
-        (λ named. (fault_of f (operator_of fields) ≡ None) × (named.op ≡ record { f = f; op = operator_of fields }) × (named.name ≡ fields.name))
+        (λ named. (fault_of f (operator_of fields) ≡ None)
+            × (named.op ≡ record { f = f; op = operator_of fields }) × (named.name ≡ fields.name))
         (λ refusal. operator_refusal number (fault_of f (operator_of fields)) ≡ Some refusal) }
 {
     let name = fields.name;

@@ -1,5 +1,5 @@
 -- Between code and definition: what the state of a header that was read so far makes of the lines that are left, and what it keeps.
-use Rattle.std.specs.Prelude.{◌≡◌, [], Ok, length}
+use Rattle.std.specs.Prelude.{◌≡◌, List, [], Ok, length}
 use Rattle.std.specs.List.{IsDistinct}
 use Rattle.std.specs.Str.{bytes_eq}
 use Rattle.mm_field.specs.declared.Field.{Field}
@@ -13,6 +13,7 @@ use Rattle.mm_header.specs.declared.state.HeaderStep.{HeaderStep}
 use Rattle.mm_header.specs.declared.state.HeaderStep.TheVariants as step
 use Rattle.mm_present.specs.declared.present.Named.{Named}
 use Rattle.mm_tree.specs.Building.{AreOver}
+use Rattle.mm_tree.specs.NamedTree.{Tree}
 use Rattle.mm_job_text.specs.Readers.{Reader, now}
 
 -- What stands before the rows.
@@ -23,14 +24,21 @@ elements_value e = record { version = e.format; f = e.field; names = e.names; ro
 abbrev pub header_value : HeaderData → HeaderValue
 header_value h = record { version = h.format; f = h.field; names = h.matrix.names; rows = h.matrix.rows.rows; ops = h.ops }
 
+-- What the lines that are left make of the names, the operators and the tree that were read so far.
+abbrev pub elements_from : HeaderRules → elements.Elements → Reader Parts
+elements_from rules e = elements_part rules (elements_value e)
+
+abbrev pub tree_from : HeaderRules → HeaderData → List Tree → Reader Parts
+tree_from rules h trees = tree_part_of rules (header_value h) trees
+
 -- What the lines that are left make of a header that was read so far.
 abbrev pub parts_from : HeaderRules → HeaderState → Reader Parts
 parts_from rules state.Format = parts rules
 parts_from rules (state.Field version) = field_part rules version
-parts_from rules (state.Elements e) = elements_part rules (elements_value e)
+parts_from rules (state.Elements e) = elements_from rules e
 parts_from rules (state.Rows h) = rows_part rules (header_value h)
 parts_from rules (state.Operators h) = ops_part rules (header_value h)
-parts_from rules (state.Tree h trees) = tree_part_of rules (header_value h) trees.trees
+parts_from rules (state.Tree h trees) = tree_from rules h trees.trees
 
 -- The same after one line more.
 abbrev pub parts_after : HeaderRules → HeaderStep → Reader Parts

@@ -36,6 +36,10 @@ FedLine limit old new r held held_new = (rs : List Line) → Fed limit old new (
 abbrev pub last_lines : ℕ → Stage → Bool → List OutputLine
 last_lines limit stage over = lines_from_stage limit stage (end_by over) []
 
+-- The same as text.
+abbrev pub last_text : ℕ → Stage → Bool → List ℕ
+last_text limit stage over = printed_all (last_lines limit stage over)
+
 -- What a sink holds grew by what a piece more settles of a text.
 abbrev pub GrewByPiece : (held held_new : Option (List ℕ)) → (limit : ℕ) → (text piece : List ℕ) → Type 0
 GrewByPiece held held_new limit text piece = Grew held held_new (written_at More limit text) (written_at More limit (text ++ piece))
