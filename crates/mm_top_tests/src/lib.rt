@@ -14,9 +14,3 @@ mod large;
 mod reference;
 #[cfg(test)]
 mod running;
-#[cfg(test)]
-mod slots;
-#[cfg(test)]
-mod texts;
-#[cfg(test)]
-mod types;

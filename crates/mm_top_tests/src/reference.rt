@@ -1,9 +1,8 @@
 //! Worked jobs, answered by listing all sets: what the definitions say of a text, beside what the program writes.
 use crate::changes::{CIRCUIT, changed};
 use crate::running::gives;
-use crate::texts::{JobText, Query, read_job};
-use crate::types::show;
 use mm_reference::{LeastSet, Question, decide, least, state_size, type_of};
+use mm_reference_text::{JobText, Query, read_job, show};
 use std::alloc::Global;
 use std::test::Fail;
 
