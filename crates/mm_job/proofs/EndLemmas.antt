@@ -2,7 +2,7 @@
 use Rattle.std.specs.Prelude.{◌≡◌, refl, ℕ, Bool, [], Option, Some, None}
 use Rattle.std.proofs.Common.{ap, ◌∙◌}
 use Rattle.mm_tree.specs.TreeValue.{TreeValue}
-use Rattle.mm_job_text.specs.Readers.{Reading, Short, and_then, now}
+use Rattle.mm_job_text.specs.Readers.{Reading, and_then, now}
 use Rattle.mm_job.specs.State.Blocks.{lines_from_block}
 use Rattle.mm_job.specs.State.JobStates.{end_by}
 use Rattle.mm_header.proofs.HeaderLemmas.{state_short}

@@ -13,7 +13,7 @@ use Rattle.mm_tree.proofs.BuilderLemmas.{over_named}
 use Rattle.mm_tree.specs.NamedTree.{Tree}
 use Rattle.mm_tree.specs.NamedTree.Tree.{Elem, Void}
 use Rattle.mm_job_text.specs.Arguments.{begins, is_word}
-use Rattle.mm_job_text.specs.Checks.{◌>>=◌, ◌>>◌}
+use Rattle.mm_job_text.specs.Checks.{◌>>=◌}
 use Rattle.mm_job_text.specs.Readers.{Reading, Read, line, each}
 use Rattle.mm_job_text.specs.TreeLines.{tree_refusal, with_leaf, elem_fields, elem_line, void_fields, void_line, join_fields, join_line, is_tree_part, tree_part, the_one, end_line, tree_lines}
 use Rattle.mm_job_text.specs.WrittenTrees.{HoldsJoins}

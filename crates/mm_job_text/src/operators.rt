@@ -46,7 +46,7 @@ fn named_operator(f: Field, number: u32, fields: OperatorLine) -> Result<NamedOp
     requires { HasDigits f fields }
     ensures { MatchResult result
         (λ named. (fault_of f (operator_of fields) ≡ None)
-            × (named.op ≡ record { f = f; op = operator_of fields }) × (named.name ≡ fields.name))
+        × (named.op ≡ record { f = f; op = operator_of fields }) × (named.name ≡ fields.name))
         (λ refusal. operator_refusal number (fault_of f (operator_of fields)) ≡ Some refusal) }
 {
     let name = fields.name;

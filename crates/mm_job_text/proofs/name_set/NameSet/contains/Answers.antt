@@ -1,4 +1,4 @@
-use Rattle.std.proofs.Common.{sym, ap, ◌∙◌}
+use Rattle.std.proofs.Common.{ap, ◌∙◌}
 use Rattle.mm_tree.proofs.BuilderLemmas.{any_name}
 use Rattle.mm_tree.specs.NamedTree.{is_one_of}
 use Rattle.mm_job_text.proofs.name_set.NameSet.contains.Goals as goal
