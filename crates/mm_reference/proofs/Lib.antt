@@ -1,6 +1,7 @@
 pub mod SpanLemmas
 pub mod ColumnLemmas
 pub mod AssignmentLemmas
+mod QuantifierLemmas
 pub mod WeightLemmas
 pub mod OrderLemmas
 pub mod InsertionLemmas

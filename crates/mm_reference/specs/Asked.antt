@@ -1,5 +1,5 @@
 -- When the program may be asked.
-use Rattle.std.specs.Prelude.{◌≡◌, ◌<◌, ◌^◌, List}
+use Rattle.std.specs.Prelude.{◌≡◌, ◌<◌, ◌^◌, ℕ, List}
 use Rattle.mm_field.specs.declared.Field.{Field}
 use Rattle.mm_logic.specs.Marks.{Marks, unmarked}
 use Rattle.mm_logic.specs.PresentMatrix.{internal}
@@ -17,3 +17,7 @@ pub record CanAsk (f : Field) (F : Formula) (T : Tree) : Type 0 where
 pub record IsAsked (f : Field) (F : Formula) (T : Tree) (ms : List Marks) : Type 0 where
   pub can : CanAsk f F T
   pub marks : ms ≡ unmarked (size T)
+
+-- The program may not be asked, or n is not the number of elements of the tree.
+abbrev pub CannotAskWith : Field → Formula → Tree → ℕ → Type 0
+CannotAskWith f F T n = CanAsk f F T → n ≡ size T → ⊥

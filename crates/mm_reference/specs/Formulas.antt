@@ -1,5 +1,6 @@
 -- The formulas and the marks that the program holds, as those of the definitions.
-use Rattle.std.specs.Prelude.{ℕ, ◌+◌, ◌<◌, Bool, false, List, map, All, slice_index_or}
+use Rattle.std.specs.Prelude.{ℕ, ◌+◌, ◌<◌, ◌&&◌, Bool, false, List, map, All, slice_index_or}
+use Rattle.std.specs.List.{list_any}
 use Rattle.std.specs.declared.vec.Vec.{Vec}
 use Rattle.mm_logic.specs.Formula as formula
 use Rattle.mm_logic.specs.Marks.{Marks}
@@ -49,6 +50,14 @@ SlotsBelow n (AllElem' k p F) = (k < n) × SlotsBelow n F
 -- the marks of an element
 abbrev pub marks_of : List Bool → Marks
 marks_of m = λ k. slice_index_or m k false
+
+-- some element has the slot
+abbrev pub any_has : ℕ → List (List Bool) → Bool
+any_has x ms = list_any (λ m. slice_index_or m x false) ms
+
+-- some element has both slots
+abbrev pub any_has_both : ℕ → ℕ → List (List Bool) → Bool
+any_has_both x y ms = list_any (λ m. slice_index_or m x false && slice_index_or m y false) ms
 
 -- the sets, as lists of tests
 abbrev pub tests_of : {A : Type 0} → List (Vec Bool A) → List (List Bool)

@@ -1,6 +1,7 @@
 pub mod Rows
 pub mod Trees
 pub mod Formulas
+pub mod Evaluation
 pub mod Asked
 pub mod LeastSets
 pub mod Values

@@ -1,12 +1,10 @@
 //! The least set of a formula on a small tree, by trying all sets.
 
-ghost use Rattle.std.specs.Prelude.{◌≡◌, ◌<◌, map, length, All, filter, IfOk, IfSome, IfNone};
+ghost use Rattle.std.specs.Prelude.{◌≡◌, ◌<◌, map, length, All, IfOk, IfSome, IfNone};
 ghost use Rattle.mm_logic.specs.Least as least_spec;
-ghost use Rattle.mm_logic.specs.Marks as marks_spec;
-ghost use Rattle.mm_logic.specs.Tree.{size};
-ghost use Rattle.mm_reference.specs.Asked.{CanAsk, IsAsked};
+ghost use Rattle.mm_reference.specs.Asked.{CannotAskWith, IsAsked};
 ghost use Rattle.mm_reference.specs.Formulas.{formula_of, marks_of, tests_of};
-ghost use Rattle.mm_reference.specs.LeastSets.{IsAnswer, set_at};
+ghost use Rattle.mm_reference.specs.LeastSets.{IsAnswer, satisfying_sets, set_at};
 ghost use Rattle.mm_reference.specs.Trees.{tree_of};
 
 use crate::meaning::{Formula, Marks, assign, holds, sets};
@@ -84,7 +82,7 @@ fn satisfying(
     marks: &[Marks],
 ) -> Result<Vec<Vec<bool>>, AllocError>
     requires { IsAsked f formula.now (tree_of tree.now) (map marks_of marks.now) }
-    ensures { IfOk result (λ v. tests_of v.items ≡ filter (least_spec.holds_of f (formula_of formula.now) (tree_of tree.now)) (marks_spec.sets (size (tree_of tree.now)))) }
+    ensures { IfOk result (λ v. tests_of v.items ≡ satisfying_sets f (formula_of formula.now) (tree_of tree.now)) }
 {
     let all = sets(alloc, marks.len())?;
     let mut kept = Vec::new(alloc);
@@ -106,7 +104,7 @@ pub fn least(
     tree: &Tree,
     weights: &[i64],
 ) -> Result<Option<LeastSet>, AllocError>
-    ensures none { IfOk result (λ answer. IfNone answer (CanAsk f formula.now (tree_of tree.now) → length weights.now ≡ size (tree_of tree.now) → ⊥)) }
+    ensures none { IfOk result (λ answer. IfNone answer (CannotAskWith f formula.now (tree_of tree.now) (length weights.now))) }
     ensures some { IfOk result (λ answer. IfSome answer (IsAnswer f (formula_of formula.now) (tree_of tree.now) weights.now)) }
 {
     match unmarked(alloc, f, formula, tree)? {

@@ -1,7 +1,7 @@
 //! What a formula means on a small tree, by trying all sets and all elements.
 
-ghost use Rattle.std.specs.Prelude.{◌≡◌, ◌<◌, ◌^◌, ◌∷◌, ◌++◌, ◌&&◌, ℕ, Bool, false, true, List, map, length, All, slice_index_or, IfOk};
-ghost use Rattle.std.specs.List.{list_any, list_all, items_where_true};
+ghost use Rattle.std.specs.Prelude.{◌≡◌, ◌<◌, ◌^◌, ◌∷◌, ◌++◌, ℕ, false, map, length, All, slice_index_or, IfOk};
+ghost use Rattle.std.specs.List.{list_all, items_where_true};
 ghost use Rattle.mm_logic.specs.Formula as formula;
 ghost use Rattle.mm_logic.specs.Marks as marks_spec;
 ghost use Rattle.mm_logic.specs.Meaning as meaning;
@@ -9,7 +9,8 @@ ghost use Rattle.mm_logic.specs.PresentMatrix as matrix;
 ghost use Rattle.mm_logic.specs.Tree.{IsValid, size};
 ghost use Rattle.mm_reference.specs.Rows.{rows_of};
 ghost use Rattle.mm_reference.specs.Trees.{tree_of};
-ghost use Rattle.mm_reference.specs.Formulas.{connective_of, term_of, formula_of, SlotsBelow, marks_of, tests_of};
+ghost use Rattle.mm_reference.specs.Evaluation.{union_of, holds_with, choices_of, quantified};
+ghost use Rattle.mm_reference.specs.Formulas.{connective_of, term_of, formula_of, SlotsBelow, marks_of, any_has_both, tests_of};
 
 use crate::combinations::independent;
 use crate::tree::{Tree, boundary, columns, internal};
@@ -55,6 +56,15 @@ pub enum Formula {
     AllElem(usize, Box<Formula>),
 }
 
+/// What a quantifier ranges over.
+#[derive(Clone, Copy)]
+enum Domain {
+    /// All sets of elements.
+    Sets,
+    /// All elements.
+    Elements,
+}
+
 /// The truth table of a connective.
 fn connect(connective: Connective, a: bool, b: bool) -> bool
     ensures { result ≡ formula.connect (connective_of connective) a b }
@@ -96,7 +106,7 @@ fn in_term(term: &Term, marks: &Marks) -> bool
 /// Which elements are in the union of a term.
 fn union(alloc: Global, term: &Term, marks: &[Marks]) -> Result<Vec<bool>, AllocError>
     requires { All (λ k. k < 16) term.now.slots.items }
-    ensures { IfOk result (λ v. v.items ≡ meaning.union (term_of term.now) (map marks_of marks.now)) }
+    ensures { IfOk result (λ v. v.items ≡ union_of term.now marks.now) }
 {
     let mut tests = Vec::new(alloc);
     for m in marks {
@@ -131,7 +141,7 @@ pub fn union_columns(
     requires small { matrix.internal (tree_of tree.now) < 2 ^ 32 }
     requires slots { All (λ k. k < 16) term.now.slots.items }
     requires each { length marks.now ≡ size (tree_of tree.now) }
-    ensures { IfOk result (λ v. rows_of v.items ≡ matrix.chosen f (tree_of tree.now) (meaning.union (term_of term.now) (map marks_of marks.now))) }
+    ensures { IfOk result (λ v. rows_of v.items ≡ matrix.chosen f (tree_of tree.now) (union_of term.now marks.now)) }
 {
     let all = columns(alloc, f, tree)?;
     let set = union(alloc, term, marks)?;
@@ -150,7 +160,7 @@ fn is_independent_union(
     requires small { matrix.internal (tree_of tree.now) < 2 ^ 32 }
     requires slots { All (λ k. k < 16) term.now.slots.items }
     requires each { length marks.now ≡ size (tree_of tree.now) }
-    ensures { IfOk result (λ b. b ≡ matrix.is_independent_set f (tree_of tree.now) (meaning.union (term_of term.now) (map marks_of marks.now))) }
+    ensures { IfOk result (λ b. b ≡ matrix.is_independent_set f (tree_of tree.now) (union_of term.now marks.now)) }
 {
     let some = union_columns(alloc, f, tree, term, marks)?;
     Ok(independent(alloc, f, boundary(tree) + internal(tree), &some)?)
@@ -160,7 +170,7 @@ fn is_independent_union(
 pub fn some_has_both(marks: &[Marks], x: usize, y: usize) -> bool
     requires first { x < 16 }
     requires second { y < 16 }
-    ensures { result ≡ list_any (λ m. slice_index_or m x false && slice_index_or m y false) marks.now }
+    ensures { result ≡ any_has_both x y marks.now }
 {
     marks.iter().any(|m| m[x] && m[y])
 }
@@ -259,6 +269,16 @@ pub fn singles(alloc: Global, n: usize) -> Result<Vec<Vec<bool>>, AllocError>
     Ok(all)
 }
 
+/// What a quantifier ranges over, for n elements: all sets of them, or the sets of one.
+fn choices(alloc: Global, domain: Domain, n: usize) -> Result<Vec<Vec<bool>>, AllocError>
+    ensures { IfOk result (λ v. tests_of v.items ≡ choices_of domain n) }
+{
+    match domain {
+        Domain::Sets => sets(alloc, n),
+        Domain::Elements => singles(alloc, n),
+    }
+}
+
 /// Whether a formula holds on a tree, where the marks of each element give the assignment.
 #[cycle(meaning)]
 pub fn holds(
@@ -287,95 +307,45 @@ pub fn holds(
             let second = holds(alloc, f, right, tree, marks)?;
             Ok(connect(*connective, first, second))
         }
-        Formula::ExSet(k, part) => Ok(holds_for_some(
-            alloc,
-            f,
-            part,
-            tree,
-            *k,
-            &sets(alloc, marks.len())?,
-            marks,
-        )?),
-        Formula::AllSet(k, part) => Ok(holds_for_each(
-            alloc,
-            f,
-            part,
-            tree,
-            *k,
-            &sets(alloc, marks.len())?,
-            marks,
-        )?),
-        Formula::ExElem(k, part) => Ok(holds_for_some(
-            alloc,
-            f,
-            part,
-            tree,
-            *k,
-            &singles(alloc, marks.len())?,
-            marks,
-        )?),
-        Formula::AllElem(k, part) => Ok(holds_for_each(
-            alloc,
-            f,
-            part,
-            tree,
-            *k,
-            &singles(alloc, marks.len())?,
-            marks,
-        )?),
+        Formula::ExSet(k, part) => {
+            holds_over(alloc, f, part, tree, *k, marks, Domain::Sets, true)
+        }
+        Formula::AllSet(k, part) => {
+            holds_over(alloc, f, part, tree, *k, marks, Domain::Sets, false)
+        }
+        Formula::ExElem(k, part) => {
+            holds_over(alloc, f, part, tree, *k, marks, Domain::Elements, true)
+        }
+        Formula::AllElem(k, part) => {
+            holds_over(alloc, f, part, tree, *k, marks, Domain::Elements, false)
+        }
     }
 }
 
-/// Whether a formula holds with some of the sets as slot k.
+/// Whether a formula holds with some of the choices of a quantifier as slot k; or with each, where it is not `some`.
 #[cycle(meaning)]
-fn holds_for_some(
+fn holds_over(
     alloc: Global,
     f: Field,
     formula: &Formula,
     tree: &Tree,
     k: usize,
-    sets: &[Vec<bool>],
     marks: &[Marks],
+    domain: Domain,
+    some: bool,
 ) -> Result<bool, AllocError>
     requires valid { IsValid f (tree_of tree.now) }
     requires small { matrix.internal (tree_of tree.now) < 2 ^ 32 }
     requires slots { SlotsBelow 16 formula.now }
     requires slot { k < 16 }
     requires each { length marks.now ≡ size (tree_of tree.now) }
-    requires sets { All (λ X. length X ≡ length marks.now) (tests_of sets.now) }
-    ensures { IfOk result (λ b. b ≡ list_any (λ X. meaning.holds f (formula_of formula.now) (tree_of tree.now) (marks_spec.assign k X (map marks_of marks.now))) (tests_of sets.now)) }
+    ensures { IfOk result (λ b. b ≡ quantified some (holds_with f formula.now tree.now k marks.now) (choices_of domain (length marks.now))) }
 {
-    for set in sets {
-        if holds(alloc, f, formula, tree, &assign(alloc, k, set, marks)?)? {
-            return Ok(true);
+    let choices = choices(alloc, domain, marks.len())?;
+    for set in &choices {
+        if holds(alloc, f, formula, tree, &assign(alloc, k, set, marks)?)? == some {
+            return Ok(some);
         }
     }
-    Ok(false)
-}
-
-/// Whether a formula holds with each of the sets as slot k.
-#[cycle(meaning)]
-fn holds_for_each(
-    alloc: Global,
-    f: Field,
-    formula: &Formula,
-    tree: &Tree,
-    k: usize,
-    sets: &[Vec<bool>],
-    marks: &[Marks],
-) -> Result<bool, AllocError>
-    requires valid { IsValid f (tree_of tree.now) }
-    requires small { matrix.internal (tree_of tree.now) < 2 ^ 32 }
-    requires slots { SlotsBelow 16 formula.now }
-    requires slot { k < 16 }
-    requires each { length marks.now ≡ size (tree_of tree.now) }
-    requires sets { All (λ X. length X ≡ length marks.now) (tests_of sets.now) }
-    ensures { IfOk result (λ b. b ≡ list_all (λ X. meaning.holds f (formula_of formula.now) (tree_of tree.now) (marks_spec.assign k X (map marks_of marks.now))) (tests_of sets.now)) }
-{
-    for set in sets {
-        if !holds(alloc, f, formula, tree, &assign(alloc, k, set, marks)?)? {
-            return Ok(false);
-        }
-    }
-    Ok(true)
+    Ok(!some)
 }

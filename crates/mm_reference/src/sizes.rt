@@ -6,9 +6,8 @@ ghost use Rattle.mm_logic.specs.PresentMatrix as matrix;
 ghost use Rattle.mm_logic.specs.StateSize as state_sizes;
 ghost use Rattle.mm_logic.specs.Tree.{IsValid};
 ghost use Rattle.mm_logic.specs.Value as value_spec;
-ghost use Rattle.mm_reference.specs.Asked.{CanAsk};
 ghost use Rattle.mm_reference.specs.Formulas.{formula_of, SlotsBelow};
-ghost use Rattle.mm_reference.specs.Sizes.{IsCount, query_of};
+ghost use Rattle.mm_reference.specs.Sizes.{IsCount, CannotCount, query_of, size_of, types_of};
 ghost use Rattle.mm_reference.specs.Trees.{tree_of};
 ghost use Rattle.mm_reference.specs.Values.{value_of, values_of, seen_of};
 
@@ -258,7 +257,7 @@ fn push_types(
     requires valid { IsValid f (tree_of tree.now) }
     requires small { matrix.internal (tree_of tree.now) < 2 ^ 32 }
     requires slots { SlotsBelow 16 formula.now }
-    ensures { IfOk result (λ _. values_of out.new.items ≡ values_of out.old.items ++ state_sizes.types f (query_of question formula.now) (tree_of tree.now)) }
+    ensures { IfOk result (λ _. values_of out.new.items ≡ values_of out.old.items ++ types_of f question formula.now tree.now) }
 {
     let mut here = types_at(alloc, f, question, formula, tree)?;
     out.append(&mut here)?;
@@ -303,8 +302,8 @@ pub fn state_size(
     formula: &Formula,
     tree: &Tree,
 ) -> Result<Option<u64>, AllocError>
-    ensures none { IfOk result (λ answer. IfNone answer (CanAsk f formula.now (tree_of tree.now) → state_sizes.state_size f (query_of question formula.now) (tree_of tree.now) < 2 ^ 64 → ⊥)) }
-    ensures some { IfOk result (λ answer. IfSome answer (λ n. n ≡ state_sizes.state_size f (query_of question formula.now) (tree_of tree.now))) }
+    ensures none { IfOk result (λ answer. IfNone answer (CannotCount f question formula.now tree.now)) }
+    ensures some { IfOk result (λ answer. IfSome answer (λ n. n ≡ size_of f question formula.now tree.now)) }
 {
     if unmarked(alloc, f, formula, tree)?.is_none() {
         return Ok(None);

@@ -1,6 +1,6 @@
 //! Small trees, and their matrices by columns.
 
-ghost use Rattle.std.specs.Prelude.{◌≡◌, ◌<◌, ◌≤◌, ◌+◌, ◌^◌, ◌++◌, ℕ, List, map, length, take, slice_index_or, IfOk};
+ghost use Rattle.std.specs.Prelude.{◌≡◌, ◌<◌, ◌≤◌, ◌+◌, ◌^◌, ◌++◌, All, map, length, take, IfOk};
 ghost use Rattle.mm_field.specs.Digits.{order};
 ghost use Rattle.mm_field.specs.Vectors as vectors;
 ghost use Rattle.mm_field.specs.Vectors.{AreDigits, IsVector, AreVectors};
@@ -10,7 +10,7 @@ ghost use Rattle.mm_logic.specs.Tree.{IsValid};
 ghost use Rattle.mm_logic.specs.Tree.{boundary as boundary_of};
 ghost use Rattle.mm_logic.specs.PresentMatrix as matrix;
 ghost use Rattle.mm_reference.specs.Rows.{rows_of};
-ghost use Rattle.mm_reference.specs.Trees.{tree_of, op_of, joined_column, joined_columns};
+ghost use Rattle.mm_reference.specs.Trees.{AreChildColumns, tree_of, op_of, joined_column, child_columns, columns_of_join};
 
 use crate::combinations::{coordinates, in_span};
 use mm_field::{Field, lanes};
@@ -125,7 +125,7 @@ fn combination(
 
 /// The rows, of r digits, cut off after n digits.
 fn cut(alloc: Global, rows: &[Vec<u8>], n: usize) -> Result<Vec<Vec<u8>>, AllocError>
-    requires { (k : ℕ) (d : List ℕ) → k < length (rows_of rows.now) → n ≤ length (slice_index_or (rows_of rows.now) k d) }
+    requires { All (λ v. n ≤ length v) (rows_of rows.now) }
     ensures { IfOk result (λ v. rows_of v.items ≡ map (take n) (rows_of rows.now)) }
 {
     let mut short = Vec::new(alloc);
@@ -212,8 +212,8 @@ fn push_joined(
 ) -> Result<(), AllocError>
     requires basis { AreVectors f (length basis.now) (rows_of basis.now) }
     requires rows { AreVectors f (length basis.now) (rows_of g.now) }
-    requires columns { (k : ℕ) (d : List ℕ) → k < length (rows_of columns.now) → (t ≤ length (slice_index_or (rows_of columns.now) k d)) × AreDigits f (slice_index_or (rows_of columns.now) k d) }
-    ensures { IfOk result (λ _. rows_of out.new.items ≡ rows_of out.old.items ++ map (joined_column f (length basis.now) (rows_of basis.now) (rows_of g.now) t before after) (rows_of columns.now)) }
+    requires columns { AreChildColumns f t (rows_of columns.now) }
+    ensures { IfOk result (λ _. rows_of out.new.items ≡ rows_of out.old.items ++ child_columns f basis.now g.now t before after columns.now) }
 {
     for column in columns {
         out.push(joined(alloc, f, basis, g, column, t, before, after)?)?;
@@ -234,7 +234,7 @@ fn join_columns(
     requires operator { IsValidOp f (op_of op.now) }
     requires left { AreVectors f (op.now.t1 + left_internal) (rows_of left.now) }
     requires right { AreVectors f (op.now.t2 + right_internal) (rows_of right.now) }
-    ensures { IfOk result (λ v. rows_of v.items ≡ joined_columns f (op_of op.now) left_internal right_internal (rows_of left.now) (rows_of right.now)) }
+    ensures { IfOk result (λ v. rows_of v.items ≡ columns_of_join f op.now left_internal right_internal left.now right.now) }
 {
     let basis = completed(alloc, f, op.t3 + op.c, &op.g3)?;
     let mut all = Vec::new(alloc);

@@ -5,13 +5,13 @@ ghost use Rattle.mm_field.specs.Digits.{order};
 ghost use Rattle.mm_field.specs.Vectors.{AreDigits, AreVectors};
 ghost use Rattle.mm_logic.specs.Operator.{IsBoundary, IsValidOp};
 ghost use Rattle.mm_logic.specs.Marks as marks_spec;
-ghost use Rattle.mm_logic.specs.Meaning.{Holds};
 ghost use Rattle.mm_logic.specs.PresentMatrix as matrix;
 ghost use Rattle.mm_logic.specs.Tree.{IsValid, size};
 ghost use Rattle.mm_reference.specs.Rows.{rows_of};
 ghost use Rattle.mm_reference.specs.Trees.{tree_of, op_of};
 ghost use Rattle.mm_reference.specs.Asked.{CanAsk, IsAsked};
-ghost use Rattle.mm_reference.specs.Formulas.{formula_of, SlotsBelow, marks_of};
+ghost use Rattle.mm_reference.specs.Evaluation.{HoldsOn};
+ghost use Rattle.mm_reference.specs.Formulas.{SlotsBelow, marks_of};
 
 use crate::combinations::independent;
 use crate::meaning::{Formula, Marks, holds};
@@ -187,7 +187,7 @@ pub fn decide(
     tree: &Tree,
 ) -> Result<Option<bool>, AllocError>
     ensures none { IfOk result (λ answer. IfNone answer (CanAsk f formula.now (tree_of tree.now) → ⊥)) }
-    ensures some { IfOk result (λ answer. IfSome answer (λ b. (b ≡ true) ↔ Holds f (formula_of formula.now) (tree_of tree.now) (marks_spec.unmarked (size (tree_of tree.now))))) }
+    ensures some { IfOk result (λ answer. IfSome answer (λ b. (b ≡ true) ↔ HoldsOn f formula.now tree.now)) }
 {
     match unmarked(alloc, f, formula, tree)? {
         None => Ok(None),

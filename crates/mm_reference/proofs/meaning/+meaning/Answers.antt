@@ -1,5 +1,4 @@
-use Rattle.std.proofs.Common.{rules, arith, ◌≡◌, ◌<◌, Bool, false, true, ◌&&◌, List, [], map, length, All, slice_index_or, sym, ap, ap₂, ◌∙◌, subst}
-use Rattle.std.specs.List.{list_any, list_all}
+use Rattle.std.proofs.Common.{rules, ◌≡◌, ◌<◌, not, ◌&&◌, List, [], map, length, All, get_or, sym, ap, ◌∙◌, subst}
 use Rattle.std.proofs.lemmas.List.{length-map}
 use Rattle.std.proofs.lemmas.List.Folds.{list_all-map}
 use Rattle.mm_logic.specs.Formula as formula
@@ -8,107 +7,55 @@ use Rattle.mm_logic.specs.Meaning as meaning
 use Rattle.mm_logic.specs.Tree.{size}
 use Rattle.mm_logic.proofs.SetLemmas.{list_any-map}
 use Rattle.mm_logic_laws.proofs.SplitLemmas.{length-assign}
-use Rattle.mm_logic_laws.proofs.LeastLemmas.{length-sets}
 use Rattle.mm_reference.specs.Trees.{tree_of}
-use Rattle.mm_reference.specs.Formulas.{formula_of, inner_nodes, SlotsBelow, marks_of, tests_of}
-use Rattle.mm_reference.proofs.AssignmentLemmas.{length-singles, set_length, test_at, some_passes, one_fails}
+use Rattle.mm_reference.specs.Formulas.{formula_of, marks_of, tests_of}
+use Rattle.mm_reference.specs.Evaluation.{holds_with, choices_of, quantified}
+use Rattle.mm_reference.proofs.AssignmentLemmas.{set_length, test_at}
+use Rattle.mm_reference.proofs.QuantifierLemmas.{length-choices, same, other, one_decides, next_undecided}
 use Rattle.mm_reference.proofs.meaning.+meaning.Goals as goal
 
-pub holds-holds_for_some-requires : goal.holds-holds_for_some-requires
-holds-holds_for_some-requires t c =
-    let slots = subst (λ F. SlotsBelow 16 F) c.in-ExSet.is c.requires.slots in
+pub holds_over-assign-requires-clause-each : goal.holds_over-assign-requires-clause-each
+holds_over-assign-requires-clause-each t c =
     let n = length c.args.marks.now in
-    let all = ap tests_of c.deref-in-ExSet-2.ensures.value ∙ c.in_ok-sets-in-ExSet.ensures in (
-      omega (arith, ap inner_nodes c.in-ExSet.is, ap inner_nodes c.deref-in-ExSet.ensures, c.decreases),
-      (
-        c.requires.valid,
-        (
-          c.requires.small,
-          (
-            subst (λ F. SlotsBelow 16 F) (sym c.deref-in-ExSet.ensures) slots.1,
-            (
-              slots.0,
-              (
-                c.requires.each,
-                subst (λ xs. All (λ X. length X ≡ n) xs) (sym all) (length-sets n),
-              ),
-            ),
-          ),
-        ),
-      ),
-    )
+    let sets = c.deref-set-items.result.now in
+    let all = ap tests_of c.deref-set-items.ensures.value ∙ c.in_ok-choices.ensures in
+    ap length c.deref.ensures.value
+    ∙ set_length n sets c.loop-set.set-index c.set-item.result
+    (subst (λ Xs. All (λ X. length X ≡ n) Xs) (sym all) (length-choices c.args.domain n)) c.loop-set-test.true c.set-item.is
 
-pub holds-holds_for_each-requires : goal.holds-holds_for_each-requires
-holds-holds_for_each-requires t c =
-    let slots = subst (λ F. SlotsBelow 16 F) c.in-AllSet.is c.requires.slots in
-    let n = length c.args.marks.now in
-    let all = ap tests_of c.deref-in-AllSet-2.ensures.value ∙ c.in_ok-sets-in-AllSet.ensures in (
-      omega (arith, ap inner_nodes c.in-AllSet.is, ap inner_nodes c.deref-in-AllSet.ensures, c.decreases),
-      (
-        c.requires.valid,
-        (
-          c.requires.small,
-          (
-            subst (λ F. SlotsBelow 16 F) (sym c.deref-in-AllSet.ensures) slots.1,
-            (
-              slots.0,
-              (
-                c.requires.each,
-                subst (λ xs. All (λ X. length X ≡ n) xs) (sym all) (length-sets n),
-              ),
-            ),
-          ),
-        ),
-      ),
-    )
+pub holds_over-holds-requires : goal.holds_over-holds-requires
+holds_over-holds-requires t c =
+    let made = ap (map marks_of) c.deref-in-loop-set.ensures.value ∙ c.in_ok-assign.ensures in
+    let long : length c.deref-in-loop-set.result.now ≡ size (tree_of c.args.tree.now) =
+    sym (length-map c.deref-in-loop-set.result.now marks_of) ∙ ap length made
+    ∙ length-assign c.args.k c.deref.result.now (map marks_of c.args.marks.now) ∙ length-map c.args.marks.now marks_of ∙ c.requires.each in
+    (search rules, (c.requires.valid, (c.requires.small, (c.requires.slots, long))))
 
-pub holds-holds_for_some-requires-in-ExElem : goal.holds-holds_for_some-requires-in-ExElem
-holds-holds_for_some-requires-in-ExElem t c =
-    let slots = subst (λ F. SlotsBelow 16 F) c.in-ExElem.is c.requires.slots in
-    let n = length c.args.marks.now in
-    let all = ap tests_of c.deref-in-ExElem-2.ensures.value ∙ c.in_ok-singles-in-ExElem.ensures in (
-      omega (arith, ap inner_nodes c.in-ExElem.is, ap inner_nodes c.deref-in-ExElem.ensures, c.decreases),
-      (
-        c.requires.valid,
-        (
-          c.requires.small,
-          (
-            subst (λ F. SlotsBelow 16 F) (sym c.deref-in-ExElem.ensures) slots.1,
-            (
-              slots.0,
-              (
-                c.requires.each,
-                subst (λ xs. All (λ X. length X ≡ n) xs) (sym all) (length-singles n),
-              ),
-            ),
-          ),
-        ),
-      ),
-    )
+pub holds_over-returns-then-branch-some : goal.holds_over-returns-then-branch-some
+holds_over-returns-then-branch-some t c =
+    let p = holds_with c.args.f c.args.formula.now c.args.tree.now c.args.k c.args.marks.now in
+    let i = c.loop-set.set-index in
+    let sets = c.deref-set-items.result.now in
+    let all = ap tests_of c.deref-set-items.ensures.value ∙ c.in_ok-choices.ensures in
+    let is = test_at sets i c.set-item.result [] c.loop-set-test.true c.set-item.is in
+    let made = ap (map marks_of) c.deref-in-loop-set.ensures.value ∙ c.in_ok-assign.ensures
+    ∙ ap (λ X. marks_spec.assign c.args.k X (map marks_of c.args.marks.now)) (c.deref.ensures.value ∙ sym is) in
+    let at : p (get_or (tests_of sets) i []) ≡ c.args.some =
+    sym (c.in_ok-holds.ensures ∙ ap (meaning.holds c.args.f (formula_of c.args.formula.now) (tree_of c.args.tree.now)) made) ∙ same c.in_ok-holds.field-0 c.args.some c.if-branch-some.true in
+    sym (one_decides c.args.some p (tests_of sets) i [] (subst (λ n. i < n) (sym (length-map sets (λ v. v.items))) c.loop-set-test.true) at)
+    ∙ ap (quantified c.args.some p) all
 
-pub holds-holds_for_each-requires-in-AllElem : goal.holds-holds_for_each-requires-in-AllElem
-holds-holds_for_each-requires-in-AllElem t c =
-    let slots = subst (λ F. SlotsBelow 16 F) c.in-AllElem.is c.requires.slots in
-    let n = length c.args.marks.now in
-    let all = ap tests_of c.deref-in-AllElem-2.ensures.value ∙ c.in_ok-singles-in-AllElem.ensures in (
-      omega (arith, ap inner_nodes c.in-AllElem.is, ap inner_nodes c.deref-in-AllElem.ensures, c.decreases),
-      (
-        c.requires.valid,
-        (
-          c.requires.small,
-          (
-            subst (λ F. SlotsBelow 16 F) (sym c.deref-in-AllElem.ensures) slots.1,
-            (
-              slots.0,
-              (
-                c.requires.each,
-                subst (λ xs. All (λ X. length X ≡ n) xs) (sym all) (length-singles n),
-              ),
-            ),
-          ),
-        ),
-      ),
-    )
+pub holds_over-loop-set-preserved : goal.holds_over-loop-set-preserved
+holds_over-loop-set-preserved t c =
+    let p = holds_with c.args.f c.args.formula.now c.args.tree.now c.args.k c.args.marks.now in
+    let i = c.loop-set.set-index in
+    let sets = c.deref-set-items.result.now in
+    let is = test_at sets i c.set-item.result [] c.loop-set-test.true c.set-item.is in
+    let made = ap (map marks_of) c.deref-in-loop-set.ensures.value ∙ c.in_ok-assign.ensures
+    ∙ ap (λ X. marks_spec.assign c.args.k X (map marks_of c.args.marks.now)) (c.deref.ensures.value ∙ sym is) in
+    let at : p (get_or (tests_of sets) i []) ≡ not c.args.some =
+    sym (c.in_ok-holds.ensures ∙ ap (meaning.holds c.args.f (formula_of c.args.formula.now) (tree_of c.args.tree.now)) made) ∙ other c.in_ok-holds.field-0 c.args.some c.if-branch-some.false in
+    next_undecided c.args.some p (tests_of sets) i [] (subst (λ n. i < n) (sym (length-map sets (λ v. v.items))) c.loop-set-test.true) c.loop-set.invariant at
 
 pub holds-returns-in-Member : goal.holds-returns-in-Member
 holds-returns-in-Member t c =
@@ -133,81 +80,3 @@ holds-returns-in-SameSet t c =
     c.is_same_set.ensures
     ∙ sym (list_all-map (λ m. formula.iff (m c.in-SameSet.a) (m c.in-SameSet.b)) marks_of c.args.marks.now)
     ∙ ap (λ F. meaning.holds c.args.f (formula_of F) (tree_of c.args.tree.now) (map marks_of c.args.marks.now)) (sym c.in-SameSet.is)
-
-pub holds-returns-in_ok-holds_for_some-in-ExElem : goal.holds-returns-in_ok-holds_for_some-in-ExElem
-holds-returns-in_ok-holds_for_some-in-ExElem t c =
-    let f = c.args.f in
-    let T = tree_of c.args.tree.now in
-    let ms = map marks_of c.args.marks.now in
-    let k = c.in-ExElem.k in
-    let all = ap tests_of c.deref-in-ExElem-2.ensures.value ∙ c.in_ok-singles-in-ExElem.ensures ∙ ap marks_spec.singles (sym (length-map c.args.marks.now marks_of)) in
-    c.in_ok-holds_for_some-in-ExElem.ensures
-    ∙ ap₂ (λ F xs. list_any (λ X. meaning.holds f (formula_of F) T (marks_spec.assign k X ms)) xs) c.deref-in-ExElem.ensures all
-    ∙ ap (λ F. meaning.holds f (formula_of F) T ms) (sym c.in-ExElem.is)
-
-pub holds-returns-in_ok-holds_for_each-in-AllElem : goal.holds-returns-in_ok-holds_for_each-in-AllElem
-holds-returns-in_ok-holds_for_each-in-AllElem t c =
-    let f = c.args.f in
-    let T = tree_of c.args.tree.now in
-    let ms = map marks_of c.args.marks.now in
-    let k = c.in-AllElem.k in
-    let all = ap tests_of c.deref-in-AllElem-2.ensures.value ∙ c.in_ok-singles-in-AllElem.ensures ∙ ap marks_spec.singles (sym (length-map c.args.marks.now marks_of)) in
-    c.in_ok-holds_for_each-in-AllElem.ensures
-    ∙ ap₂ (λ F xs. list_all (λ X. meaning.holds f (formula_of F) T (marks_spec.assign k X ms)) xs) c.deref-in-AllElem.ensures all
-    ∙ ap (λ F. meaning.holds f (formula_of F) T ms) (sym c.in-AllElem.is)
-
-pub holds_for_some-assign-requires-clause-each : goal.holds_for_some-assign-requires-clause-each
-holds_for_some-assign-requires-clause-each t c =
-    ap length c.deref.ensures.value
-    ∙ set_length (length c.args.marks.now) c.args.sets.now c.loop-set.set-index c.set-item.result c.requires.sets c.loop-set-test.true c.set-item.is
-
-pub holds_for_some-holds-requires : goal.holds_for_some-holds-requires
-holds_for_some-holds-requires t c =
-    let made = ap (map marks_of) c.deref-in-loop-set.ensures.value ∙ c.in_ok-assign.ensures in
-    let long : length c.deref-in-loop-set.result.now ≡ size (tree_of c.args.tree.now) =
-    sym (length-map c.deref-in-loop-set.result.now marks_of) ∙ ap length made
-    ∙ length-assign c.args.k c.deref.result.now (map marks_of c.args.marks.now) ∙ length-map c.args.marks.now marks_of ∙ c.requires.each in
-    (search rules, (c.requires.valid, (c.requires.small, (c.requires.slots, long))))
-
-pub holds_for_some-returns-then-branch : goal.holds_for_some-returns-then-branch
-holds_for_some-returns-then-branch t c =
-    let f = c.args.f in
-    let F = formula_of c.args.formula.now in
-    let T = tree_of c.args.tree.now in
-    let ms = map marks_of c.args.marks.now in
-    let k = c.args.k in
-    let i = c.loop-set.set-index in
-    let sets = c.args.sets.now in
-    let set = c.set-item.result in
-    let p : List Bool → Bool = λ X. meaning.holds f F T (marks_spec.assign k X ms) in
-    let made = ap (map marks_of) c.deref-in-loop-set.ensures.value ∙ c.in_ok-assign.ensures ∙ ap (λ X. marks_spec.assign k X ms) (c.deref.ensures.value ∙ sym (test_at sets i set [] c.loop-set-test.true c.set-item.is)) in
-    let at : p (slice_index_or (tests_of sets) i []) ≡ true = sym (c.in_ok-holds.ensures ∙ ap (meaning.holds f F T) made) ∙ c.if-branch.true in
-    sym (some_passes p (tests_of sets) i [] (subst (λ n. i < n) (sym (length-map sets (λ v. v.items))) c.loop-set-test.true) at)
-
-pub holds_for_each-assign-requires-clause-each : goal.holds_for_each-assign-requires-clause-each
-holds_for_each-assign-requires-clause-each t c =
-    ap length c.deref.ensures.value
-    ∙ set_length (length c.args.marks.now) c.args.sets.now c.loop-set.set-index c.set-item.result c.requires.sets c.loop-set-test.true c.set-item.is
-
-pub holds_for_each-holds-requires : goal.holds_for_each-holds-requires
-holds_for_each-holds-requires t c =
-    let made = ap (map marks_of) c.deref-in-loop-set.ensures.value ∙ c.in_ok-assign.ensures in
-    let long : length c.deref-in-loop-set.result.now ≡ size (tree_of c.args.tree.now) =
-    sym (length-map c.deref-in-loop-set.result.now marks_of) ∙ ap length made
-    ∙ length-assign c.args.k c.deref.result.now (map marks_of c.args.marks.now) ∙ length-map c.args.marks.now marks_of ∙ c.requires.each in
-    (search rules, (c.requires.valid, (c.requires.small, (c.requires.slots, long))))
-
-pub holds_for_each-returns-then-not-branch : goal.holds_for_each-returns-then-not-branch
-holds_for_each-returns-then-not-branch t c =
-    let f = c.args.f in
-    let F = formula_of c.args.formula.now in
-    let T = tree_of c.args.tree.now in
-    let ms = map marks_of c.args.marks.now in
-    let k = c.args.k in
-    let i = c.loop-set.set-index in
-    let sets = c.args.sets.now in
-    let set = c.set-item.result in
-    let p : List Bool → Bool = λ X. meaning.holds f F T (marks_spec.assign k X ms) in
-    let made = ap (map marks_of) c.deref-in-loop-set.ensures.value ∙ c.in_ok-assign.ensures ∙ ap (λ X. marks_spec.assign k X ms) (c.deref.ensures.value ∙ sym (test_at sets i set [] c.loop-set-test.true c.set-item.is)) in
-    let at : p (slice_index_or (tests_of sets) i []) ≡ false = sym (c.in_ok-holds.ensures ∙ ap (meaning.holds f F T) made) ∙ (let e : c.in_ok-holds.field-0 ≡ false = search rules in e) in
-    sym (one_fails p (tests_of sets) i [] (subst (λ n. i < n) (sym (length-map sets (λ v. v.items))) c.loop-set-test.true) at)
