@@ -163,7 +163,7 @@ fn is_independent_union(
     ensures { IfOk result (λ b. b ≡ matrix.is_independent_set f (tree_of tree.now) (union_of term.now marks.now)) }
 {
     let some = union_columns(alloc, f, tree, term, marks)?;
-    Ok(independent(alloc, f, boundary(tree) + internal(tree), &some)?)
+    independent(alloc, f, boundary(tree) + internal(tree), &some)
 }
 
 /// Whether some element has both slots.
@@ -296,7 +296,7 @@ pub fn holds(
 {
     match formula {
         Formula::Const(b) => Ok(*b),
-        Formula::Ind(term) => Ok(is_independent_union(alloc, f, tree, term, marks)?),
+        Formula::Ind(term) => is_independent_union(alloc, f, tree, term, marks),
         Formula::Member(x, a) => Ok(some_has_both(marks, *x, *a)),
         Formula::SameElem(x, y) => Ok(some_has_both(marks, *x, *y)),
         Formula::Sub(a, b) => Ok(is_subset(marks, *a, *b)),

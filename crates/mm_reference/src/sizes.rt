@@ -184,13 +184,7 @@ fn cells(alloc: Global, formula: &Formula, values: &[&Value]) -> Result<Option<u
 {
     let own = distinct_cells(formula, values);
     match formula {
-        Formula::Const(_)
-        | Formula::Ind(_)
-        | Formula::Member(_, _)
-        | Formula::SameElem(_, _)
-        | Formula::Sub(_, _)
-        | Formula::SameSet(_, _) => Ok(own),
-        Formula::Not(part) => Ok(cells(alloc, part, values)?),
+        Formula::Not(part) => cells(alloc, part, values),
         Formula::Bin(_, left, right) => {
             let of_firsts = cells(alloc, left, &firsts(alloc, values)?)?;
             let of_seconds = cells(alloc, right, &seconds(alloc, values)?)?;
@@ -202,6 +196,7 @@ fn cells(alloc: Global, formula: &Formula, values: &[&Value]) -> Result<Option<u
         Formula::ExElem(_, part) | Formula::AllElem(_, part) => {
             Ok(add(own, cells(alloc, part, &elem_parts(alloc, values)?)?))
         }
+        _ => Ok(own),
     }
 }
 
@@ -240,7 +235,7 @@ fn types_at(
         }
         Question::Least => {
             let all = sets(alloc, marks.len())?;
-            Ok(types_over(alloc, f, formula, tree, 0, &all, &marks)?)
+            types_over(alloc, f, formula, tree, 0, &all, &marks)
         }
     }
 }

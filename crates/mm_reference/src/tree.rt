@@ -74,7 +74,7 @@ pub fn push_zeros(out: &mut Vec<u8>, n: usize) -> Result<(), AllocError>
 fn zero_vector(alloc: Global, n: usize) -> Result<Vec<u8>, AllocError>
     ensures { IfOk result (λ v. v.items ≡ vectors.zeros n) }
 {
-    Ok(vec![in alloc; 0; n]?)
+    vec![in alloc; 0; n]
 }
 
 /// The vector of r digits with 1 at place k and 0 elsewhere.

@@ -120,21 +120,23 @@ pub fn read_type(
 {
     match formula {
         Formula::Const(_) => Ok(Value::Flag(0)),
-        Formula::Ind(term) => Ok(ind_type(alloc, f, tree, term, marks)?),
+        Formula::Ind(term) => ind_type(alloc, f, tree, term, marks),
         Formula::Member(x, a) => Ok(member_type(marks, *x, *a)),
         Formula::SameElem(x, y) => Ok(same_elem_type(marks, *x, *y)),
         Formula::Sub(a, b) => Ok(holding(is_subset(marks, *a, *b))),
         Formula::SameSet(a, b) => Ok(holding(is_same_set(marks, *a, *b))),
-        Formula::Not(part) => Ok(read_type(alloc, f, part, tree, marks)?),
+        Formula::Not(part) => read_type(alloc, f, part, tree, marks),
         Formula::Bin(_, left, right) => {
             let first = read_type(alloc, f, left, tree, marks)?;
             let second = read_type(alloc, f, right, tree, marks)?;
-            Ok(pair(alloc, first, second)?)
+            pair(alloc, first, second)
         }
-        Formula::ExSet(k, part) => Ok(set_type(alloc, f, part, tree, *k, marks)?),
-        Formula::AllSet(k, part) => Ok(set_type(alloc, f, part, tree, *k, marks)?),
-        Formula::ExElem(k, part) => Ok(elem_type(alloc, f, part, tree, *k, marks)?),
-        Formula::AllElem(k, part) => Ok(elem_type(alloc, f, part, tree, *k, marks)?),
+        Formula::ExSet(k, part) | Formula::AllSet(k, part) => {
+            set_type(alloc, f, part, tree, *k, marks)
+        }
+        Formula::ExElem(k, part) | Formula::AllElem(k, part) => {
+            elem_type(alloc, f, part, tree, *k, marks)
+        }
     }
 }
 
