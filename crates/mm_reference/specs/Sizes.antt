@@ -3,13 +3,13 @@ use Rattle.std.specs.Prelude.{◌≡◌, ◌<◌, ◌≤◌, ◌^◌, ℕ, Optio
 use Rattle.mm_field.specs.declared.Field.{Field}
 use Rattle.mm_logic.specs.StateSize.{Query, types, state_size}
 use Rattle.mm_logic.specs.Value.{Value}
-use Rattle.mm_reference.specs.Asked.{CanAsk}
-use Rattle.mm_reference.specs.Formulas.{formula_of}
-use Rattle.mm_reference.specs.Trees.{tree_of}
-use Rattle.mm_reference.specs.declared.meaning.Formula.{Formula}
+use Rattle.mm_reference_meaning.specs.Asked.{CanAsk}
+use Rattle.mm_reference_meaning.specs.Formulas.{formula_of}
+use Rattle.mm_reference_meaning.specs.Trees.{tree_of}
+use Rattle.mm_reference_meaning.specs.declared.meaning.Formula.{Formula}
 use Rattle.mm_reference.specs.declared.sizes.Question.{Question}
 use Rattle.mm_reference.specs.declared.sizes.Question.TheVariants.{Decide, Least}
-use Rattle.mm_reference.specs.declared.tree.Tree.{Tree}
+use Rattle.mm_reference_meaning.specs.declared.tree.Tree.{Tree}
 
 -- a count of n, which is nothing where n is 2^64 or more
 abbrev pub IsCount : ℕ → Option ℕ → Type 0

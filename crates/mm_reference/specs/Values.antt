@@ -3,7 +3,7 @@ use Rattle.std.specs.Prelude.{◌≡◌, List, map}
 use Rattle.std.specs.Borrow.{Bor}
 use Rattle.mm_logic.specs.Order.{insert}
 use Rattle.mm_logic.specs.Value as value
-use Rattle.mm_reference.specs.Rows.{rows_of}
+use Rattle.mm_reference_meaning.specs.Rows.{rows_of}
 use Rattle.mm_reference.specs.declared.values.Value.{Value, Flag, Dead, Span, Pair', Empty, With'}
 
 abbrev pub value_of : Value → value.Value

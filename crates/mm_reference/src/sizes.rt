@@ -6,17 +6,15 @@ ghost use Rattle.mm_logic.specs.PresentMatrix as matrix;
 ghost use Rattle.mm_logic.specs.StateSize as state_sizes;
 ghost use Rattle.mm_logic.specs.Tree.{IsValid};
 ghost use Rattle.mm_logic.specs.Value as value_spec;
-ghost use Rattle.mm_reference.specs.Formulas.{formula_of, SlotsBelow};
+ghost use Rattle.mm_reference_meaning.specs.Formulas.{formula_of, SlotsBelow};
 ghost use Rattle.mm_reference.specs.Sizes.{IsCount, CannotCount, query_of, size_of, types_of};
-ghost use Rattle.mm_reference.specs.Trees.{tree_of};
+ghost use Rattle.mm_reference_meaning.specs.Trees.{tree_of};
 ghost use Rattle.mm_reference.specs.Values.{value_of, values_of, seen_of};
 
-use crate::meaning::{Formula, sets};
-use crate::tree::Tree;
 use crate::types::{read_type, types_over};
-use crate::validity::{push_unmarked, unmarked};
 use crate::values::{Value, compare};
 use mm_field::Field;
+use mm_reference_meaning::{Formula, Tree, push_unmarked, sets, unmarked};
 use std::alloc::{AllocError, Global};
 
 /// What is asked of a tree with a formula.

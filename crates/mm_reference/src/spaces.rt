@@ -7,13 +7,12 @@ ghost use Rattle.mm_field.specs.Vectors.{zeros, AreDigits, AreVectors};
 ghost use Rattle.mm_linear.specs.Decide.{is_in_span};
 ghost use Rattle.mm_linear.specs.Subspaces as subspaces;
 ghost use Rattle.mm_logic.specs.BoundarySpaces as boundary_spaces;
-ghost use Rattle.mm_reference.specs.Rows.{rows_of};
+ghost use Rattle.mm_reference_meaning.specs.Rows.{rows_of};
 ghost use Rattle.mm_reference.specs.Spaces as spaces;
 ghost use Rattle.mm_reference.specs.Spaces.{HasLead, IsClearOf, IsClearOfAll, IsReducedAt};
 
-use crate::combinations::{in_span, is_zero};
-use crate::tree::push_zeros;
 use mm_field::Field;
+use mm_reference_meaning::{in_span, is_zero, push_zeros};
 use std::alloc::{AllocError, Global};
 
 /// Whether the first digit of a row other than 0 is a 1 at place k.

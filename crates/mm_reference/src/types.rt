@@ -8,22 +8,20 @@ ghost use Rattle.mm_logic.specs.PresentMatrix as matrix;
 ghost use Rattle.mm_logic.specs.Tree.{IsValid, size};
 ghost use Rattle.mm_logic.specs.Types as types;
 ghost use Rattle.mm_logic.specs.Value as value_spec;
-ghost use Rattle.mm_reference.specs.Asked.{CannotAskWith};
-ghost use Rattle.mm_reference.specs.Evaluation.{union_of, type_at, type_with};
-ghost use Rattle.mm_reference.specs.Formulas.{formula_of, SlotsBelow, marks_of, tests_of, any_has, any_has_both};
-ghost use Rattle.mm_reference.specs.Trees.{tree_of};
+ghost use Rattle.mm_reference_meaning.specs.Asked.{CannotAskWith};
+ghost use Rattle.mm_reference_meaning.specs.Evaluation.{union_of};
+ghost use Rattle.mm_reference.specs.Types.{type_at, type_with};
+ghost use Rattle.mm_reference_meaning.specs.Formulas.{formula_of, SlotsBelow, marks_of, tests_of, any_has, any_has_both};
+ghost use Rattle.mm_reference_meaning.specs.Trees.{tree_of};
 ghost use Rattle.mm_reference.specs.Values.{value_of, values_of};
 
-use crate::combinations::independent;
-use crate::meaning::{
-    Formula, Marks, Term, assign, is_same_set, is_subset, none, sets, singles, some_has_both,
-    union_columns,
-};
 use crate::spaces::boundary_space;
-use crate::tree::{Tree, boundary, internal};
-use crate::validity::unmarked;
 use crate::values::{Value, collected, pair};
 use mm_field::Field;
+use mm_reference_meaning::{
+    Formula, Marks, Term, Tree, assign, boundary, independent, internal, is_same_set, is_subset,
+    none, sets, singles, some_has_both, union_columns, unmarked,
+};
 use std::alloc::{AllocError, Global};
 
 /// Whether some element has the slot.

@@ -3,7 +3,7 @@
 ghost use Rattle.std.specs.Prelude.{◌≡◌, length, IfOk};
 ghost use Rattle.std.specs.Ordering.{nat_cmp};
 ghost use Rattle.mm_logic.specs.Value as value_spec;
-ghost use Rattle.mm_reference.specs.Rows.{rows_of};
+ghost use Rattle.mm_reference_meaning.specs.Rows.{rows_of};
 ghost use Rattle.mm_reference.specs.Values.{IsInserted, value_of, values_of};
 
 use std::alloc::{AllocError, Global};

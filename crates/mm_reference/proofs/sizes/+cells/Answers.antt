@@ -2,12 +2,12 @@ use Rattle.std.proofs.Common.{◌≡◌, ◌+◌, ℕ, Box, Global, inl, inr, ma
 use Rattle.mm_logic.specs.Formula as spec
 use Rattle.mm_logic.specs.Value.{members, first, second}
 use Rattle.mm_logic.specs.Occurrence.{own_cells, distinct, cells, elem_parts}
-use Rattle.mm_reference.specs.Formulas.{formula_of, connective_of}
+use Rattle.mm_reference_meaning.specs.Formulas.{formula_of, connective_of}
 use Rattle.mm_reference.specs.Sizes.{IsCount}
 use Rattle.mm_reference.specs.Values.{seen_of}
-use Rattle.mm_reference.specs.declared.meaning.Connective.{Connective}
-use Rattle.mm_reference.specs.declared.meaning.Formula.{Formula, Const, Ind, Member, SameElem, Sub, SameSet, Not', Bin', ExSet', AllSet', ExElem', AllElem'}
-use Rattle.mm_reference.specs.declared.meaning.Formula.TheVariants.{Not, Bin, ExSet, AllSet, ExElem, AllElem}
+use Rattle.mm_reference_meaning.specs.declared.meaning.Connective.{Connective}
+use Rattle.mm_reference_meaning.specs.declared.meaning.Formula.{Formula, Const, Ind, Member, SameElem, Sub, SameSet, Not', Bin', ExSet', AllSet', ExElem', AllElem'}
+use Rattle.mm_reference_meaning.specs.declared.meaning.Formula.TheVariants.{Not, Bin, ExSet, AllSet, ExElem, AllElem}
 use Rattle.mm_reference.proofs.SizeLemmas.{IsAtom, cells_atom, cells_bin}
 use Rattle.mm_reference.proofs.sizes.+cells.Goals as goal
 
