@@ -1,4 +1,4 @@
-use Rattle.std.proofs.Common.{rules, ◌≡◌, ◌<◌, not, ◌&&◌, List, [], map, length, All, get_or, sym, ap, ◌∙◌, subst}
+use Rattle.std.proofs.Common.{rules, ◌≡◌, ◌<◌, not, ◌&&◌, [], map, length, All, get_or, sym, ap, ◌∙◌, subst}
 use Rattle.std.proofs.lemmas.List.{length-map}
 use Rattle.std.proofs.lemmas.List.Folds.{list_all-map}
 use Rattle.mm_logic.specs.Formula as formula
@@ -9,7 +9,7 @@ use Rattle.mm_logic.proofs.SetLemmas.{list_any-map}
 use Rattle.mm_logic_laws.proofs.SplitLemmas.{length-assign}
 use Rattle.mm_reference_meaning.specs.Trees.{tree_of}
 use Rattle.mm_reference_meaning.specs.Formulas.{formula_of, marks_of, tests_of}
-use Rattle.mm_reference_meaning.specs.Evaluation.{holds_with, choices_of, quantified}
+use Rattle.mm_reference_meaning.specs.Evaluation.{holds_with, quantified}
 use Rattle.mm_reference_meaning.proofs.AssignmentLemmas.{set_length, test_at}
 use Rattle.mm_reference_meaning.proofs.QuantifierLemmas.{length-choices, same, other, one_decides, next_undecided}
 use Rattle.mm_reference_meaning.proofs.meaning.+meaning.Goals as goal
