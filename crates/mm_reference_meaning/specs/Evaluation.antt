@@ -30,7 +30,7 @@ abbrev pub choices_of : Domain → ℕ → List (List Bool)
 choices_of Sets n = sets n
 choices_of Elements n = singles n
 
--- some of the sets pass the test; or, where the quantifier is none of `some`, each of them does
-abbrev pub quantified : Bool → (List Bool → Bool) → List (List Bool) → Bool
-quantified true p Xs = list_any p Xs
-quantified false p Xs = list_all p Xs
+-- The truth of a quantifier over some sets: with true, whether some of them passes the test; with false, whether each does.
+abbrev pub truth_of : Bool → (List Bool → Bool) → List (List Bool) → Bool
+truth_of true p Xs = list_any p Xs
+truth_of false p Xs = list_all p Xs

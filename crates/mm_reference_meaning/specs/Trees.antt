@@ -13,7 +13,8 @@ use Rattle.mm_reference_meaning.specs.declared.tree.Tree.{Tree, Elem, Void, Join
 
 -- the operator
 abbrev pub op_of : Op → operator.Op
-op_of op = record { t1 = op.t1; t2 = op.t2; t3 = op.t3; c = op.c; g1 = rows_of op.g1.items; g2 = rows_of op.g2.items; g3 = rows_of op.g3.items }
+op_of op =
+    record { t1 = op.t1; t2 = op.t2; t3 = op.t3; c = op.c; g1 = rows_of op.g1.items; g2 = rows_of op.g2.items; g3 = rows_of op.g3.items }
 
 -- the tree
 abbrev pub tree_of : Tree → tree.Tree
@@ -37,8 +38,9 @@ abbrev pub AreChildColumns : Field → ℕ → List (List ℕ) → Type 0
 AreChildColumns f t columns = All (λ v. (t ≤ length v) × AreDigits f v) columns
 
 -- the columns of a child as columns of the join, for rows that the program holds
-abbrev pub child_columns : {A B C : Type 0} → Field → List (Vec ℕ A) → List (Vec ℕ B) → (t before after : ℕ) → List (Vec ℕ C) → List (List ℕ)
-child_columns f basis g t before after columns =
+abbrev pub joined_all : {A B C : Type 0} → Field → List (Vec ℕ A) → List (Vec ℕ B) → (t before after : ℕ) → List (Vec ℕ C) →
+    List (List ℕ)
+joined_all f basis g t before after columns =
     map (joined_column f (length basis) (rows_of basis) (rows_of g) t before after) (rows_of columns)
 
 -- the columns of a join, for rows that the program holds

@@ -9,7 +9,7 @@ ghost use Rattle.mm_logic.specs.PresentMatrix as matrix;
 ghost use Rattle.mm_logic.specs.Tree.{IsValid, size};
 ghost use Rattle.mm_reference_meaning.specs.Rows.{rows_of};
 ghost use Rattle.mm_reference_meaning.specs.Trees.{tree_of};
-ghost use Rattle.mm_reference_meaning.specs.Evaluation.{union_of, holds_with, choices_of, quantified};
+ghost use Rattle.mm_reference_meaning.specs.Evaluation.{union_of, holds_with, choices_of, truth_of};
 ghost use Rattle.mm_reference_meaning.specs.Formulas.{connective_of, term_of, formula_of, SlotsBelow, marks_of, any_has_both, tests_of};
 
 use crate::combinations::independent;
@@ -339,7 +339,7 @@ fn holds_over(
     requires slots { SlotsBelow 16 formula.now }
     requires slot { k < 16 }
     requires each { length marks.now ≡ size (tree_of tree.now) }
-    ensures { IfOk result (λ b. b ≡ quantified some (holds_with f formula.now tree.now k marks.now) (choices_of domain (length marks.now))) }
+    ensures { IfOk result (λ b. b ≡ truth_of some (holds_with f formula.now tree.now k marks.now) (choices_of domain (length marks.now))) }
 {
     let choices = choices(alloc, domain, marks.len())?;
     for set in &choices {

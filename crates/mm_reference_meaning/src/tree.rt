@@ -10,7 +10,7 @@ ghost use Rattle.mm_logic.specs.Tree.{IsValid};
 ghost use Rattle.mm_logic.specs.Tree.{boundary as boundary_of};
 ghost use Rattle.mm_logic.specs.PresentMatrix as matrix;
 ghost use Rattle.mm_reference_meaning.specs.Rows.{rows_of};
-ghost use Rattle.mm_reference_meaning.specs.Trees.{AreChildColumns, tree_of, op_of, joined_column, child_columns, columns_of_join};
+ghost use Rattle.mm_reference_meaning.specs.Trees.{AreChildColumns, tree_of, op_of, joined_column, joined_all, columns_of_join};
 
 use crate::combinations::{coordinates, in_span};
 use mm_field::{Field, lanes};
@@ -213,7 +213,7 @@ fn push_joined(
     requires basis { AreVectors f (length basis.now) (rows_of basis.now) }
     requires rows { AreVectors f (length basis.now) (rows_of g.now) }
     requires columns { AreChildColumns f t (rows_of columns.now) }
-    ensures { IfOk result (λ _. rows_of out.new.items ≡ rows_of out.old.items ++ child_columns f basis.now g.now t before after columns.now) }
+    ensures { IfOk result (λ _. rows_of out.new.items ≡ rows_of out.old.items ++ joined_all f basis.now g.now t before after columns.now) }
 {
     for column in columns {
         out.push(joined(alloc, f, basis, g, column, t, before, after)?)?;

@@ -9,7 +9,7 @@ use Rattle.mm_logic.proofs.SetLemmas.{list_any-map}
 use Rattle.mm_logic_laws.proofs.SplitLemmas.{length-assign}
 use Rattle.mm_reference_meaning.specs.Trees.{tree_of}
 use Rattle.mm_reference_meaning.specs.Formulas.{formula_of, marks_of, tests_of}
-use Rattle.mm_reference_meaning.specs.Evaluation.{holds_with, quantified}
+use Rattle.mm_reference_meaning.specs.Evaluation.{holds_with, truth_of}
 use Rattle.mm_reference_meaning.proofs.AssignmentLemmas.{set_length, test_at}
 use Rattle.mm_reference_meaning.proofs.QuantifierLemmas.{length-choices, same, other, one_decides, next_undecided}
 use Rattle.mm_reference_meaning.proofs.meaning.+meaning.Goals as goal
@@ -43,7 +43,7 @@ holds_over-returns-then-branch-some t c =
     let at : p (get_or (tests_of sets) i []) ≡ c.args.some =
     sym (c.in_ok-holds.ensures ∙ ap (meaning.holds c.args.f (formula_of c.args.formula.now) (tree_of c.args.tree.now)) made) ∙ same c.in_ok-holds.field-0 c.args.some c.if-branch-some.true in
     sym (one_decides c.args.some p (tests_of sets) i [] (subst (λ n. i < n) (sym (length-map sets (λ v. v.items))) c.loop-set-test.true) at)
-    ∙ ap (quantified c.args.some p) all
+    ∙ ap (truth_of c.args.some p) all
 
 pub holds_over-loop-set-preserved : goal.holds_over-loop-set-preserved
 holds_over-loop-set-preserved t c =

@@ -1,5 +1,5 @@
 use Rattle.std.proofs.Common.{◌≡◌, ◌+◌, ◌*◌, not, take}
-use Rattle.mm_reference_meaning.specs.Evaluation.{holds_with, quantified}
+use Rattle.mm_reference_meaning.specs.Evaluation.{holds_with, truth_of}
 use Rattle.mm_reference_meaning.specs.Formulas.{inner_nodes, tests_of}
 use Rattle.mm_reference_meaning.proofs.meaning.+meaning.Given as goal
 
@@ -11,4 +11,4 @@ decreases-holds_over l = 2 * inner_nodes l.formula.now + 1
 
 abbrev pub invariant-holds_over-loop-set : goal.invariant-holds_over-loop-set
 invariant-holds_over-loop-set l =
-    quantified l.some (holds_with l.f l.formula l.tree l.k l.marks) (take l.set-index (tests_of l.set-items)) ≡ not l.some
+    truth_of l.some (holds_with l.f l.formula l.tree l.k l.marks) (take l.set-index (tests_of l.set-items)) ≡ not l.some
