@@ -1,7 +1,3 @@
-pub mod SpanLemmas
-pub mod ColumnLemmas
-pub mod AssignmentLemmas
-pub mod WeightLemmas
 pub mod OrderLemmas
 pub mod InsertionLemmas
 pub mod ReducedLemmas

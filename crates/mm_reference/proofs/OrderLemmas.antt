@@ -8,7 +8,7 @@ use Rattle.std.specs.declared.cmp.Ordering.TheVariants.{Less, Equal, Greater}
 use Rattle.std.specs.declared.vec.Vec.{Vec}
 use Rattle.mm_logic.specs.Value.{Value, members, written, value_cmp}
 use Rattle.mm_logic.specs.Value.Value.{Flag, Dead, Span, Pair, Empty, With}
-use Rattle.mm_reference.specs.Rows.{rows_of}
+use Rattle.mm_reference_meaning.specs.Rows.{rows_of}
 
 -- the order of one part of what is written
 abbrev pub part_cmp : List (List ℕ) → List (List ℕ) → Ordering

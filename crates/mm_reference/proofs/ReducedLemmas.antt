@@ -29,7 +29,7 @@ use Rattle.mm_linear.proofs.MeetTest.{is_in_span_decides}
 use Rattle.mm_linear.proofs.SubspaceLemmas.{IsVector-in_span}
 use Rattle.mm_linear.proofs.SubspaceTests.{Contains-filter, all_vectors_contain, all_vectors_are, head_of_span_is}
 use Rattle.mm_linear.proofs.InsertLemmas.{sum_of_zeros, cleared_at}
-use Rattle.mm_reference.specs.Rows.{rows_of}
+use Rattle.mm_reference_meaning.specs.Rows.{rows_of}
 use Rattle.mm_reference.specs.Spaces.{IsSpace, HasLead, IsReducedRow}
 
 -- ---- leads

@@ -8,14 +8,14 @@ use Rattle.mm_logic.specs.Value.{Value, first, second}
 use Rattle.mm_logic.specs.Occurrence.{distinct, is_among, nodes, occurring, own_cells, list_cells, cells}
 use Rattle.mm_logic.proofs.OccurrenceLemmas.{nodes-occurring, distinct-append, same_flip}
 use Rattle.mm_reference.specs.Sizes.{IsCount, query_of}
-use Rattle.mm_reference.specs.Formulas.{formula_of}
-use Rattle.mm_reference.specs.declared.meaning.Formula as code_formula
+use Rattle.mm_reference_meaning.specs.Formulas.{formula_of}
+use Rattle.mm_reference_meaning.specs.declared.meaning.Formula as code_formula
 use Rattle.mm_reference.specs.declared.sizes.Question.{Question}
 use Rattle.mm_reference.specs.declared.sizes.Question.TheVariants.{Decide, Least}
 use Rattle.mm_logic.specs.StateSize.{asked}
 use Rattle.mm_reference.specs.Values.{value_of, seen_of}
 use Rattle.mm_reference.specs.declared.values as code
-use Rattle.mm_reference.proofs.AssignmentLemmas.{take_next}
+use Rattle.mm_reference_meaning.proofs.AssignmentLemmas.{take_next}
 
 pub count_more : (n : ℕ) (r : Option ℕ) → IsCount (1 + n) r → IsCount (suc n) r
 count_more n r h = subst (λ k. IsCount k r) (let e : 1 + n ≡ suc n = omega arith in e) h

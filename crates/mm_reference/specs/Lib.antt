@@ -1,8 +1,4 @@
-pub mod Rows
-pub mod Trees
-pub mod Formulas
-pub mod Asked
-pub mod LeastSets
 pub mod Values
+pub mod Types
 pub mod Spaces
 pub mod Sizes

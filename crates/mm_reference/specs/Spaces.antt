@@ -1,7 +1,9 @@
 -- Subspaces by the list of all their vectors.
-use Rattle.std.specs.Prelude.{◌≡◌, ◌<◌, ℕ, suc, List, [], ◌∷◌, ◌++◌, length, take, slice_index, slice_index_or, Contains}
+use Rattle.std.specs.Prelude.{◌≡◌, ◌<◌, ◌+◌, ℕ, suc, List, [], ◌∷◌, ◌++◌, length, take, filter, slice_index, slice_index_or, Contains}
 use Rattle.mm_field.specs.declared.Field.{Field}
 use Rattle.mm_field.specs.Vectors.{zeros, AreVectors, InSpan}
+use Rattle.mm_linear.specs.Decide.{is_in_span}
+use Rattle.mm_linear.specs.Subspaces.{all_vectors}
 
 -- The list has each vector that is in its own span: it lists a subspace.
 pub record IsSpace (f : Field) (t : ℕ) (vs : List (List ℕ)) : Type 0 where
@@ -16,7 +18,19 @@ HasLead k v = take (suc k) v ≡ zeros k ++ (1 ∷ [])
 abbrev pub IsClearOf : ℕ → List ℕ → List ℕ → Type 0
 IsClearOf k v u = (l : ℕ) → k < l → l < length v → HasLead l u → slice_index v l ≡ 0
 
+-- v is clear of each vector of the list, from place k on
+abbrev pub IsClearOfAll : ℕ → List ℕ → List (List ℕ) → Type 0
+IsClearOfAll k v vs = (i : ℕ) → i < length vs → IsClearOf k v (slice_index_or vs i [])
+
 -- A row of the reduced echelon basis of a listed space has its lead at place k, and 0 at each later lead of a vector of the space.
 pub record IsReducedRow (k : ℕ) (vs : List (List ℕ)) (v : List ℕ) : Type 0 where
   pub lead : HasLead k v
-  pub clear : (i : ℕ) → i < length vs → IsClearOf k v (slice_index_or vs i [])
+  pub clear : IsClearOfAll k v vs
+
+-- the vector at place i of the list is such a row
+abbrev pub IsReducedAt : ℕ → List (List ℕ) → ℕ → Type 0
+IsReducedAt k vs i = IsReducedRow k vs (slice_index_or vs i [])
+
+-- the vectors of the boundary that the columns, of t boundary digits and m internal ones, combine to
+abbrev pub boundary_vectors : Field → (t m : ℕ) → List (List ℕ) → List (List ℕ)
+boundary_vectors f t m cs = filter (λ b. is_in_span f (t + m) cs (b ++ zeros m)) (all_vectors f t)

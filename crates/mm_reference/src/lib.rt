@@ -2,24 +2,19 @@
 //!
 //! It makes the matrix of a tree, tries all coefficients to decide independence, tries all sets and all elements to decide a
 //! formula, to read its type or to find its least set, and tries all vectors to read a boundary space. It joins no types and keeps
-//! no tables. Tests compare the program with it on small trees.
+//! no tables. Tests compare the program with it on small trees. Meaning and least sets are computed by `mm_reference_meaning`, types
+//! and state sizes here.
 #![tactic(auto)]
 
-mod combinations;
-mod first_sets;
-mod meaning;
 mod sizes;
 mod spaces;
-mod tree;
 mod types;
-mod validity;
 mod values;
 
-pub use combinations::{coordinates, in_span, independent};
-pub use first_sets::{LeastSet, least};
-pub use meaning::{Connective, Formula, Marks, Term, holds};
+pub use mm_reference_meaning::{
+    Connective, Formula, LeastSet, Marks, Op, Term, Tree, coordinates, decide, holds, in_span,
+    independent, is_valid, least,
+};
 pub use sizes::{Question, state_size};
-pub use tree::{Op, Tree};
 pub use types::type_of;
-pub use validity::{decide, is_valid};
 pub use values::Value;

@@ -6,18 +6,15 @@ ghost use Rattle.mm_logic.specs.PresentMatrix as matrix;
 ghost use Rattle.mm_logic.specs.StateSize as state_sizes;
 ghost use Rattle.mm_logic.specs.Tree.{IsValid};
 ghost use Rattle.mm_logic.specs.Value as value_spec;
-ghost use Rattle.mm_reference.specs.Asked.{CanAsk};
-ghost use Rattle.mm_reference.specs.Formulas.{formula_of, SlotsBelow};
-ghost use Rattle.mm_reference.specs.Sizes.{IsCount, query_of};
-ghost use Rattle.mm_reference.specs.Trees.{tree_of};
+ghost use Rattle.mm_reference_meaning.specs.Formulas.{formula_of, SlotsBelow};
+ghost use Rattle.mm_reference.specs.Sizes.{IsCount, CannotCount, query_of, size_of, types_of};
+ghost use Rattle.mm_reference_meaning.specs.Trees.{tree_of};
 ghost use Rattle.mm_reference.specs.Values.{value_of, values_of, seen_of};
 
-use crate::meaning::{Formula, sets};
-use crate::tree::Tree;
 use crate::types::{read_type, types_over};
-use crate::validity::{push_unmarked, unmarked};
 use crate::values::{Value, compare};
 use mm_field::Field;
+use mm_reference_meaning::{Formula, Tree, push_unmarked, sets, unmarked};
 use std::alloc::{AllocError, Global};
 
 /// What is asked of a tree with a formula.
@@ -185,13 +182,7 @@ fn cells(alloc: Global, formula: &Formula, values: &[&Value]) -> Result<Option<u
 {
     let own = distinct_cells(formula, values);
     match formula {
-        Formula::Const(_)
-        | Formula::Ind(_)
-        | Formula::Member(_, _)
-        | Formula::SameElem(_, _)
-        | Formula::Sub(_, _)
-        | Formula::SameSet(_, _) => Ok(own),
-        Formula::Not(part) => Ok(cells(alloc, part, values)?),
+        Formula::Not(part) => cells(alloc, part, values),
         Formula::Bin(_, left, right) => {
             let of_firsts = cells(alloc, left, &firsts(alloc, values)?)?;
             let of_seconds = cells(alloc, right, &seconds(alloc, values)?)?;
@@ -203,6 +194,7 @@ fn cells(alloc: Global, formula: &Formula, values: &[&Value]) -> Result<Option<u
         Formula::ExElem(_, part) | Formula::AllElem(_, part) => {
             Ok(add(own, cells(alloc, part, &elem_parts(alloc, values)?)?))
         }
+        _ => Ok(own),
     }
 }
 
@@ -241,7 +233,7 @@ fn types_at(
         }
         Question::Least => {
             let all = sets(alloc, marks.len())?;
-            Ok(types_over(alloc, f, formula, tree, 0, &all, &marks)?)
+            types_over(alloc, f, formula, tree, 0, &all, &marks)
         }
     }
 }
@@ -258,7 +250,7 @@ fn push_types(
     requires valid { IsValid f (tree_of tree.now) }
     requires small { matrix.internal (tree_of tree.now) < 2 ^ 32 }
     requires slots { SlotsBelow 16 formula.now }
-    ensures { IfOk result (λ _. values_of out.new.items ≡ values_of out.old.items ++ state_sizes.types f (query_of question formula.now) (tree_of tree.now)) }
+    ensures { IfOk result (λ _. values_of out.new.items ≡ values_of out.old.items ++ types_of f question formula.now tree.now) }
 {
     let mut here = types_at(alloc, f, question, formula, tree)?;
     out.append(&mut here)?;
@@ -303,8 +295,8 @@ pub fn state_size(
     formula: &Formula,
     tree: &Tree,
 ) -> Result<Option<u64>, AllocError>
-    ensures none { IfOk result (λ answer. IfNone answer (CanAsk f formula.now (tree_of tree.now) → state_sizes.state_size f (query_of question formula.now) (tree_of tree.now) < 2 ^ 64 → ⊥)) }
-    ensures some { IfOk result (λ answer. IfSome answer (λ n. n ≡ state_sizes.state_size f (query_of question formula.now) (tree_of tree.now))) }
+    ensures none { IfOk result (λ answer. IfNone answer (CannotCount f question formula.now tree.now)) }
+    ensures some { IfOk result (λ answer. IfSome answer (λ n. n ≡ size_of f question formula.now tree.now)) }
 {
     if unmarked(alloc, f, formula, tree)?.is_none() {
         return Ok(None);

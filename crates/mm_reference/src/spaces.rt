@@ -7,12 +7,12 @@ ghost use Rattle.mm_field.specs.Vectors.{zeros, AreDigits, AreVectors};
 ghost use Rattle.mm_linear.specs.Decide.{is_in_span};
 ghost use Rattle.mm_linear.specs.Subspaces as subspaces;
 ghost use Rattle.mm_logic.specs.BoundarySpaces as boundary_spaces;
-ghost use Rattle.mm_reference.specs.Rows.{rows_of};
-ghost use Rattle.mm_reference.specs.Spaces.{HasLead, IsClearOf, IsReducedRow};
+ghost use Rattle.mm_reference_meaning.specs.Rows.{rows_of};
+ghost use Rattle.mm_reference.specs.Spaces as spaces;
+ghost use Rattle.mm_reference.specs.Spaces.{HasLead, IsClearOf, IsClearOfAll, IsReducedAt};
 
-use crate::combinations::{in_span, is_zero};
-use crate::tree::push_zeros;
 use mm_field::Field;
+use mm_reference_meaning::{in_span, is_zero, push_zeros};
 use std::alloc::{AllocError, Global};
 
 /// Whether the first digit of a row other than 0 is a 1 at place k.
@@ -43,8 +43,8 @@ fn is_clear_of(row: &[u8], k: usize, vector: &[u8]) -> bool
 fn is_clear(space: &[Vec<u8>], row: &[u8], k: usize) -> bool
     requires place { k < length row.now }
     requires same_length { All (λ v. length v ≡ length row.now) (rows_of space.now) }
-    ensures yes { result ≡ true → (i : ℕ) → i < length (rows_of space.now) → IsClearOf k row.now (slice_index_or (rows_of space.now) i []) }
-    ensures no { result ≡ false → ((i : ℕ) → i < length (rows_of space.now) → IsClearOf k row.now (slice_index_or (rows_of space.now) i [])) → ⊥ }
+    ensures yes { result ≡ true → IsClearOfAll k row.now (rows_of space.now) }
+    ensures no { result ≡ false → IsClearOfAll k row.now (rows_of space.now) → ⊥ }
 {
     for vector in space {
         if !is_clear_of(row, k, vector) {
@@ -58,8 +58,8 @@ fn is_clear(space: &[Vec<u8>], row: &[u8], k: usize) -> bool
 fn reduced_place(space: &[Vec<u8>], t: usize, k: usize) -> Option<usize>
     requires place { k < t }
     requires same_length { All (λ v. length v ≡ t) (rows_of space.now) }
-    ensures some { IfSome result (λ i. (i < length space.now) × IsReducedRow k (rows_of space.now) (slice_index_or (rows_of space.now) i [])) }
-    ensures none { IfNone result ((i : ℕ) → i < length space.now → IsReducedRow k (rows_of space.now) (slice_index_or (rows_of space.now) i []) → ⊥) }
+    ensures some { IfSome result (λ i. (i < length space.now) × IsReducedAt k (rows_of space.now) i) }
+    ensures none { IfNone result ((i : ℕ) → i < length space.now → IsReducedAt k (rows_of space.now) i → ⊥) }
 {
     for (i, row) in space.iter().enumerate() {
         if has_lead(row, k) && is_clear(space, row, k) {
@@ -141,7 +141,7 @@ fn boundary_vectors(
     columns: &[Vec<u8>],
 ) -> Result<Vec<Vec<u8>>, AllocError>
     requires { AreVectors f (t + m) (rows_of columns.now) }
-    ensures { IfOk result (λ v. rows_of v.items ≡ filter (λ b. is_in_span f (t + m) (rows_of columns.now) (b ++ zeros m)) (subspaces.all_vectors f t)) }
+    ensures { IfOk result (λ v. rows_of v.items ≡ spaces.boundary_vectors f t m (rows_of columns.now)) }
 {
     let all = all_vectors(alloc, f, t)?;
     let mut kept = Vec::new(alloc);

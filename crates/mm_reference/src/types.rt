@@ -1,37 +1,33 @@
 //! The type of a formula on a small tree, by trying all sets and all elements.
 
-ghost use Rattle.std.specs.Prelude.{◌≡◌, ◌<◌, ◌^◌, ◌&&◌, false, map, length, All, slice_index_or, if◌then◌else◌, IfOk, IfSome, IfNone};
-ghost use Rattle.std.specs.List.{list_any};
+ghost use Rattle.std.specs.Prelude.{◌≡◌, ◌<◌, ◌^◌, map, length, All, if◌then◌else◌, IfOk, IfSome, IfNone};
 ghost use Rattle.mm_logic.specs.AtomValues as atoms;
 ghost use Rattle.mm_logic.specs.BoundarySpaces as boundary_spaces;
-ghost use Rattle.mm_logic.specs.Formula as formula;
-ghost use Rattle.mm_logic.specs.Marks as marks_spec;
-ghost use Rattle.mm_logic.specs.Meaning as meaning;
+ghost use Rattle.mm_logic.specs.Formula.Formula.{ExSet, ExElem};
 ghost use Rattle.mm_logic.specs.PresentMatrix as matrix;
 ghost use Rattle.mm_logic.specs.Tree.{IsValid, size};
 ghost use Rattle.mm_logic.specs.Types as types;
 ghost use Rattle.mm_logic.specs.Value as value_spec;
-ghost use Rattle.mm_reference.specs.Asked.{CanAsk};
-ghost use Rattle.mm_reference.specs.Formulas.{term_of, formula_of, SlotsBelow, marks_of, tests_of};
-ghost use Rattle.mm_reference.specs.Trees.{tree_of};
+ghost use Rattle.mm_reference_meaning.specs.Asked.{CannotAskWith};
+ghost use Rattle.mm_reference_meaning.specs.Evaluation.{union_of};
+ghost use Rattle.mm_reference.specs.Types.{type_at, type_with};
+ghost use Rattle.mm_reference_meaning.specs.Formulas.{formula_of, SlotsBelow, marks_of, tests_of, any_has, any_has_both};
+ghost use Rattle.mm_reference_meaning.specs.Trees.{tree_of};
 ghost use Rattle.mm_reference.specs.Values.{value_of, values_of};
 
-use crate::combinations::independent;
-use crate::meaning::{
-    Formula, Marks, Term, assign, is_same_set, is_subset, none, sets, singles, some_has_both,
-    union_columns,
-};
 use crate::spaces::boundary_space;
-use crate::tree::{Tree, boundary, internal};
-use crate::validity::unmarked;
 use crate::values::{Value, collected, pair};
 use mm_field::Field;
+use mm_reference_meaning::{
+    Formula, Marks, Term, Tree, assign, boundary, independent, internal, is_same_set, is_subset,
+    none, sets, singles, some_has_both, union_columns, unmarked,
+};
 use std::alloc::{AllocError, Global};
 
 /// Whether some element has the slot.
 fn some_has(marks: &[Marks], x: usize) -> bool
     requires { x < 16 }
-    ensures { result ≡ list_any (λ m. slice_index_or m x false) marks.now }
+    ensures { result ≡ any_has x marks.now }
 {
     marks.iter().any(|m| m[x])
 }
@@ -51,7 +47,7 @@ fn holding(holds: bool) -> Value
 fn member_type(marks: &[Marks], x: usize, a: usize) -> Value
     requires first { x < 16 }
     requires second { a < 16 }
-    ensures { value_of result ≡ (if list_any (λ m. slice_index_or m x false) marks.now then atoms.member (list_any (λ m. slice_index_or m x false && slice_index_or m a false) marks.now) else atoms.unseen) }
+    ensures { value_of result ≡ (if any_has x marks.now then atoms.member (any_has_both x a marks.now) else atoms.unseen) }
 {
     if !some_has(marks, x) {
         Value::Flag(0)
@@ -66,7 +62,7 @@ fn member_type(marks: &[Marks], x: usize, a: usize) -> Value
 fn same_elem_type(marks: &[Marks], x: usize, y: usize) -> Value
     requires first { x < 16 }
     requires second { y < 16 }
-    ensures { value_of result ≡ atoms.same_elem (list_any (λ m. slice_index_or m x false) marks.now) (list_any (λ m. slice_index_or m y false) marks.now) (list_any (λ m. slice_index_or m x false && slice_index_or m y false) marks.now) }
+    ensures { value_of result ≡ atoms.same_elem (any_has x marks.now) (any_has y marks.now) (any_has_both x y marks.now) }
 {
     match (some_has(marks, x), some_has(marks, y)) {
         (false, false) => Value::Flag(0),
@@ -94,7 +90,7 @@ fn ind_type(
     requires small { matrix.internal (tree_of tree.now) < 2 ^ 32 }
     requires slots { All (λ k. k < 16) term.now.slots.items }
     requires each { length marks.now ≡ size (tree_of tree.now) }
-    ensures { IfOk result (λ v. value_of v ≡ boundary_spaces.ind_type f (tree_of tree.now) (meaning.union (term_of term.now) (map marks_of marks.now))) }
+    ensures { IfOk result (λ v. value_of v ≡ boundary_spaces.ind_type f (tree_of tree.now) (union_of term.now marks.now)) }
 {
     let some = union_columns(alloc, f, tree, term, marks)?;
     let t = boundary(tree);
@@ -118,25 +114,27 @@ pub fn read_type(
     requires small { matrix.internal (tree_of tree.now) < 2 ^ 32 }
     requires slots { SlotsBelow 16 formula.now }
     requires each { length marks.now ≡ size (tree_of tree.now) }
-    ensures { IfOk result (λ v. value_of v ≡ types.type_of f (formula_of formula.now) (tree_of tree.now) (map marks_of marks.now)) }
+    ensures { IfOk result (λ v. value_of v ≡ type_at f formula.now tree.now marks.now) }
 {
     match formula {
         Formula::Const(_) => Ok(Value::Flag(0)),
-        Formula::Ind(term) => Ok(ind_type(alloc, f, tree, term, marks)?),
+        Formula::Ind(term) => ind_type(alloc, f, tree, term, marks),
         Formula::Member(x, a) => Ok(member_type(marks, *x, *a)),
         Formula::SameElem(x, y) => Ok(same_elem_type(marks, *x, *y)),
         Formula::Sub(a, b) => Ok(holding(is_subset(marks, *a, *b))),
         Formula::SameSet(a, b) => Ok(holding(is_same_set(marks, *a, *b))),
-        Formula::Not(part) => Ok(read_type(alloc, f, part, tree, marks)?),
+        Formula::Not(part) => read_type(alloc, f, part, tree, marks),
         Formula::Bin(_, left, right) => {
             let first = read_type(alloc, f, left, tree, marks)?;
             let second = read_type(alloc, f, right, tree, marks)?;
-            Ok(pair(alloc, first, second)?)
+            pair(alloc, first, second)
         }
-        Formula::ExSet(k, part) => Ok(set_type(alloc, f, part, tree, *k, marks)?),
-        Formula::AllSet(k, part) => Ok(set_type(alloc, f, part, tree, *k, marks)?),
-        Formula::ExElem(k, part) => Ok(elem_type(alloc, f, part, tree, *k, marks)?),
-        Formula::AllElem(k, part) => Ok(elem_type(alloc, f, part, tree, *k, marks)?),
+        Formula::ExSet(k, part) | Formula::AllSet(k, part) => {
+            set_type(alloc, f, part, tree, *k, marks)
+        }
+        Formula::ExElem(k, part) | Formula::AllElem(k, part) => {
+            elem_type(alloc, f, part, tree, *k, marks)
+        }
     }
 }
 
@@ -155,7 +153,7 @@ fn set_type(
     requires slots { SlotsBelow 16 part.now }
     requires slot { k < 16 }
     requires each { length marks.now ≡ size (tree_of tree.now) }
-    ensures { IfOk result (λ v. value_of v ≡ types.type_of f (formula.Formula.ExSet k (formula_of part.now)) (tree_of tree.now) (map marks_of marks.now)) }
+    ensures { IfOk result (λ v. value_of v ≡ types.type_of f (ExSet k (formula_of part.now)) (tree_of tree.now) (map marks_of marks.now)) }
 {
     let all = sets(alloc, marks.len())?;
     Ok(collected(alloc, types_over(alloc, f, part, tree, k, &all, marks)?)?)
@@ -177,7 +175,7 @@ fn elem_type(
     requires slots { SlotsBelow 16 part.now }
     requires slot { k < 16 }
     requires each { length marks.now ≡ size (tree_of tree.now) }
-    ensures { IfOk result (λ v. value_of v ≡ types.type_of f (formula.Formula.ExElem k (formula_of part.now)) (tree_of tree.now) (map marks_of marks.now)) }
+    ensures { IfOk result (λ v. value_of v ≡ types.type_of f (ExElem k (formula_of part.now)) (tree_of tree.now) (map marks_of marks.now)) }
 {
     let nowhere = none(alloc, marks.len())?;
     let unassigned = read_type(alloc, f, part, tree, &assign(alloc, k, &nowhere, marks)?)?;
@@ -203,7 +201,7 @@ pub fn types_over(
     requires slot { k < 16 }
     requires each { length marks.now ≡ size (tree_of tree.now) }
     requires sets { All (λ X. length X ≡ length marks.now) (tests_of sets.now) }
-    ensures { IfOk result (λ v. values_of v.items ≡ map (λ X. types.type_of f (formula_of formula.now) (tree_of tree.now) (marks_spec.assign k X (map marks_of marks.now))) (tests_of sets.now)) }
+    ensures { IfOk result (λ v. values_of v.items ≡ map (type_with f formula.now tree.now k marks.now) (tests_of sets.now)) }
 {
     let mut types = Vec::new(alloc);
     for set in sets {
@@ -222,8 +220,8 @@ pub fn type_of(
     tree: &Tree,
     marks: &[Marks],
 ) -> Result<Option<Value>, AllocError>
-    ensures none { IfOk result (λ answer. IfNone answer (CanAsk f formula.now (tree_of tree.now) → length marks.now ≡ size (tree_of tree.now) → ⊥)) }
-    ensures some { IfOk result (λ answer. IfSome answer (λ v. value_of v ≡ types.type_of f (formula_of formula.now) (tree_of tree.now) (map marks_of marks.now))) }
+    ensures none { IfOk result (λ answer. IfNone answer (CannotAskWith f formula.now (tree_of tree.now) (length marks.now))) }
+    ensures some { IfOk result (λ answer. IfSome answer (λ v. value_of v ≡ type_at f formula.now tree.now marks.now)) }
 {
     match unmarked(alloc, f, formula, tree)? {
         None => Ok(None),

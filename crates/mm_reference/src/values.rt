@@ -1,11 +1,10 @@
 //! The types of formulas as values, in their total order, and sets of them.
 
-ghost use Rattle.std.specs.Prelude.{◌≡◌, List, length, IfOk};
+ghost use Rattle.std.specs.Prelude.{◌≡◌, length, IfOk};
 ghost use Rattle.std.specs.Ordering.{nat_cmp};
-ghost use Rattle.mm_logic.specs.Order as order_spec;
 ghost use Rattle.mm_logic.specs.Value as value_spec;
-ghost use Rattle.mm_reference.specs.Rows.{rows_of};
-ghost use Rattle.mm_reference.specs.Values.{value_of, values_of};
+ghost use Rattle.mm_reference_meaning.specs.Rows.{rows_of};
+ghost use Rattle.mm_reference.specs.Values.{IsInserted, value_of, values_of};
 
 use std::alloc::{AllocError, Global};
 use std::cmp::Ordering;
@@ -100,7 +99,7 @@ pub fn pair(alloc: Global, first: Value, second: Value) -> Result<Value, AllocEr
 
 /// The set with a value put at its place, unless it is there.
 fn insert(alloc: Global, value: Value, set: Value) -> Result<Value, AllocError>
-    ensures { IfOk result (λ r. (ws : List value_spec.Value) → value_of set ≡ value_spec.set_of ws → value_of r ≡ value_spec.set_of (order_spec.insert value_spec.value_cmp (value_of value) ws)) }
+    ensures { IfOk result (λ r. IsInserted (value_of value) (value_of set) (value_of r)) }
 {
     match set {
         Value::With(least, rest) => match compare(&value, &least) {

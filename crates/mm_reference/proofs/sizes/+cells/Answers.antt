@@ -1,55 +1,40 @@
-use Rattle.std.proofs.Common.{◌≡◌, ◌⊎◌, ◌+◌, ℕ, Bool, inl, inr, map, flat_map, sum_by, refl, sym, ap, ap₂, ◌∙◌, subst}
+use Rattle.std.proofs.Common.{◌≡◌, ◌+◌, ℕ, Box, Global, inl, inr, map, flat_map, sum_by, refl, sym, ap, ap₂, ◌∙◌, subst}
 use Rattle.mm_logic.specs.Formula as spec
 use Rattle.mm_logic.specs.Value.{members, first, second}
 use Rattle.mm_logic.specs.Occurrence.{own_cells, distinct, cells, elem_parts}
-use Rattle.mm_reference.specs.Formulas.{formula_of, connective_of}
+use Rattle.mm_reference_meaning.specs.Formulas.{formula_of, connective_of}
 use Rattle.mm_reference.specs.Sizes.{IsCount}
 use Rattle.mm_reference.specs.Values.{seen_of}
-use Rattle.mm_reference.specs.declared.meaning.Term.{Term}
-use Rattle.mm_reference.specs.declared.meaning.Formula.{Formula, Const, Ind, Member, SameElem, Sub, SameSet}
+use Rattle.mm_reference_meaning.specs.declared.meaning.Connective.{Connective}
+use Rattle.mm_reference_meaning.specs.declared.meaning.Formula.{Formula, Const, Ind, Member, SameElem, Sub, SameSet, Not', Bin', ExSet', AllSet', ExElem', AllElem'}
+use Rattle.mm_reference_meaning.specs.declared.meaning.Formula.TheVariants.{Not, Bin, ExSet, AllSet, ExElem, AllElem}
 use Rattle.mm_reference.proofs.SizeLemmas.{IsAtom, cells_atom, cells_bin}
 use Rattle.mm_reference.proofs.sizes.+cells.Goals as goal
 
--- each of these is an atom
-atom_of : (F : Formula) →
-    ((x : Bool) × F ≡ Const x) ⊎ (((x : Term) × F ≡ Ind x) ⊎ (((x : ℕ) × (y : ℕ) × F ≡ Member x y)
-    ⊎ (((x : ℕ) × (y : ℕ) × F ≡ SameElem x y) ⊎ (((x : ℕ) × (y : ℕ) × F ≡ Sub x y) ⊎ ((x : ℕ) × (y : ℕ) × F ≡ SameSet x y))))) →
-    IsAtom (formula_of F)
-atom_of F (inl p) = subst (λ G. IsAtom (formula_of G)) (sym p.1) (refl, λ vs. refl)
-atom_of F (inr (inl p)) = subst (λ G. IsAtom (formula_of G)) (sym p.1) (refl, λ vs. refl)
-atom_of F (inr (inr (inl p))) = subst (λ G. IsAtom (formula_of G)) (sym p.2) (refl, λ vs. refl)
-atom_of F (inr (inr (inr (inl p)))) = subst (λ G. IsAtom (formula_of G)) (sym p.2) (refl, λ vs. refl)
-atom_of F (inr (inr (inr (inr (inl p))))) = subst (λ G. IsAtom (formula_of G)) (sym p.2) (refl, λ vs. refl)
-atom_of F (inr (inr (inr (inr (inr p))))) = subst (λ G. IsAtom (formula_of G)) (sym p.2) (refl, λ vs. refl)
+-- a formula that is none of these is an atom
+atom_of : (F : Formula) → ((x : Box Formula Global) → F ≡ Not x → ⊥) →
+    ((o : Connective) (x y : Box Formula Global) → F ≡ Bin o x y → ⊥) → ((k : ℕ) (x : Box Formula Global) → F ≡ ExSet k x → ⊥) →
+    ((k : ℕ) (x : Box Formula Global) → F ≡ AllSet k x → ⊥) → ((k : ℕ) (x : Box Formula Global) → F ≡ ExElem k x → ⊥) →
+    ((k : ℕ) (x : Box Formula Global) → F ≡ AllElem k x → ⊥) → IsAtom (formula_of F)
+atom_of (Not' p G) n b s1 s2 e1 e2 = absurd (n _ refl)
+atom_of (Bin' o p G q H) n b s1 s2 e1 e2 = absurd (b o _ _ refl)
+atom_of (ExSet' k p G) n b s1 s2 e1 e2 = absurd (s1 k _ refl)
+atom_of (AllSet' k p G) n b s1 s2 e1 e2 = absurd (s2 k _ refl)
+atom_of (ExElem' k p G) n b s1 s2 e1 e2 = absurd (e1 k _ refl)
+atom_of (AllElem' k p G) n b s1 s2 e1 e2 = absurd (e2 k _ refl)
+atom_of (Const a) n b s1 s2 e1 e2 = (refl, λ vs. refl)
+atom_of (Ind u) n b s1 s2 e1 e2 = (refl, λ vs. refl)
+atom_of (Member x y) n b s1 s2 e1 e2 = (refl, λ vs. refl)
+atom_of (SameElem x y) n b s1 s2 e1 e2 = (refl, λ vs. refl)
+atom_of (Sub x y) n b s1 s2 e1 e2 = (refl, λ vs. refl)
+atom_of (SameSet x y) n b s1 s2 e1 e2 = (refl, λ vs. refl)
 
-pub returns-in-Const : goal.returns-in-Const
-returns-in-Const t c =
-    subst (λ n. IsCount n c.distinct_cells-own.result) (cells_atom (formula_of c.args.formula.now) (seen_of c.args.values.now) (atom_of c.args.formula.now c.in-Const.is))
-    c.distinct_cells-own.ensures
-
-pub returns-in-Const-2 : goal.returns-in-Const-2
-returns-in-Const-2 t c =
-    subst (λ n. IsCount n c.distinct_cells-own.result) (cells_atom (formula_of c.args.formula.now) (seen_of c.args.values.now) (atom_of c.args.formula.now c.in-Const.is))
-    c.distinct_cells-own.ensures
-
-pub returns-in-Const-3 : goal.returns-in-Const-3
-returns-in-Const-3 t c =
-    subst (λ n. IsCount n c.distinct_cells-own.result) (cells_atom (formula_of c.args.formula.now) (seen_of c.args.values.now) (atom_of c.args.formula.now c.in-Const.is))
-    c.distinct_cells-own.ensures
-
-pub returns-in-Const-4 : goal.returns-in-Const-4
-returns-in-Const-4 t c =
-    subst (λ n. IsCount n c.distinct_cells-own.result) (cells_atom (formula_of c.args.formula.now) (seen_of c.args.values.now) (atom_of c.args.formula.now c.in-Const.is))
-    c.distinct_cells-own.ensures
-
-pub returns-in-Const-5 : goal.returns-in-Const-5
-returns-in-Const-5 t c =
-    subst (λ n. IsCount n c.distinct_cells-own.result) (cells_atom (formula_of c.args.formula.now) (seen_of c.args.values.now) (atom_of c.args.formula.now c.in-Const.is))
-    c.distinct_cells-own.ensures
-
-pub returns-in-Const-6 : goal.returns-in-Const-6
-returns-in-Const-6 t c =
-    subst (λ n. IsCount n c.distinct_cells-own.result) (cells_atom (formula_of c.args.formula.now) (seen_of c.args.values.now) (atom_of c.args.formula.now c.in-Const.is))
+pub returns-in_default : goal.returns-in_default
+returns-in_default t c =
+    let h = c.in_default in
+    subst (λ n. IsCount n c.distinct_cells-own.result)
+    (cells_atom (formula_of c.args.formula.now) (seen_of c.args.values.now)
+    (atom_of c.args.formula.now h.not-Not h.not-Bin h.not-ExSet h.not-AllSet h.not-ExElem h.not-AllElem))
     c.distinct_cells-own.ensures
 
 pub returns-in_ok-of_seconds-in-Bin : goal.returns-in_ok-of_seconds-in-Bin

@@ -3,7 +3,7 @@ use Rattle.mm_logic.specs.StateSize.{types_at, rows}
 use Rattle.mm_logic.specs.Occurrence.{distinct}
 use Rattle.mm_logic.specs.Tree.{Tree, subtrees}
 use Rattle.mm_reference.specs.Sizes.{IsCount, query_of}
-use Rattle.mm_reference.specs.Trees.{tree_of, op_of}
+use Rattle.mm_reference_meaning.specs.Trees.{tree_of, op_of}
 use Rattle.mm_reference.specs.Values.{seen_of, values_of}
 use Rattle.mm_reference.proofs.SizeLemmas.{sum_join}
 use Rattle.mm_reference.proofs.sizes.+rows.Goals as goal

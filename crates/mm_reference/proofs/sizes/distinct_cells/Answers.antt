@@ -1,6 +1,6 @@
 use Rattle.std.proofs.Common.{◌≡◌, ◌+◌, true, false, take, sum_by, sym, ◌∙◌, subst}
 use Rattle.mm_logic.specs.Occurrence.{own_cells, distinct, is_among}
-use Rattle.mm_reference.specs.Formulas.{formula_of}
+use Rattle.mm_reference_meaning.specs.Formulas.{formula_of}
 use Rattle.mm_reference.specs.Sizes.{IsCount}
 use Rattle.mm_reference.specs.Values.{value_of, seen_of}
 use Rattle.mm_reference.proofs.SizeLemmas.{counted_same, counted_new, seen_next}

@@ -4,7 +4,7 @@ use Rattle.std.specs.Ordering.{is_eq}
 use Rattle.mm_logic.specs.Value.Value.{Dead}
 use Rattle.mm_logic.specs.Occurrence.{same}
 use Rattle.mm_reference.specs.Values.{value_of, seen_of}
-use Rattle.mm_reference.proofs.AssignmentLemmas.{some_passes}
+use Rattle.mm_reference_meaning.proofs.AssignmentLemmas.{some_passes}
 use Rattle.mm_reference.proofs.SizeLemmas.{seen_at}
 use Rattle.mm_reference.proofs.sizes.is_among.Goals as goal
 

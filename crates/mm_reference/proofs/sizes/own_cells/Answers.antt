@@ -1,7 +1,7 @@
 use Rattle.std.proofs.Common.{inl, inr, length, refl, sym, subst}
 use Rattle.mm_logic.specs.Value.{members, second}
 use Rattle.mm_logic.specs.Occurrence.{own_cells}
-use Rattle.mm_reference.specs.Formulas.{formula_of}
+use Rattle.mm_reference_meaning.specs.Formulas.{formula_of}
 use Rattle.mm_reference.specs.Sizes.{IsCount}
 use Rattle.mm_reference.specs.Values.{value_of}
 use Rattle.mm_reference.proofs.SizeLemmas.{count_more}

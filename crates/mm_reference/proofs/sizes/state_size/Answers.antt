@@ -1,10 +1,10 @@
 use Rattle.std.proofs.Common.{◌≡◌, ◌+◌, ◌++◌, ap, ◌∙◌, subst}
 use Rattle.mm_logic.specs.StateSize.{types, rows, state_size}
 use Rattle.mm_logic.specs.Occurrence.{cells}
-use Rattle.mm_reference.specs.Asked.{CanAsk}
-use Rattle.mm_reference.specs.Formulas.{formula_of}
+use Rattle.mm_reference_meaning.specs.Asked.{CanAsk}
+use Rattle.mm_reference_meaning.specs.Formulas.{formula_of}
 use Rattle.mm_reference.specs.Sizes.{IsCount, query_of}
-use Rattle.mm_reference.specs.Trees.{tree_of}
+use Rattle.mm_reference_meaning.specs.Trees.{tree_of}
 use Rattle.mm_reference.specs.Values.{seen_of, values_of}
 use Rattle.mm_reference.proofs.SizeLemmas.{count_is, count_is_less, asked_is}
 use Rattle.mm_reference.proofs.sizes.state_size.Goals as goal

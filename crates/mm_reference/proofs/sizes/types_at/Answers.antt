@@ -1,7 +1,7 @@
 use Rattle.std.proofs.Common.{◌≡◌, ◌∙◌, length, All, sym, ap, subst}
 use Rattle.mm_logic.specs.Marks.{sets}
 use Rattle.mm_logic_laws.proofs.LeastLemmas.{length-sets}
-use Rattle.mm_reference.specs.Formulas.{tests_of}
+use Rattle.mm_reference_meaning.specs.Formulas.{tests_of}
 use Rattle.mm_reference.proofs.sizes.types_at.Goals as goal
 
 pub types_over-requires-clause-sets : goal.types_over-requires-clause-sets

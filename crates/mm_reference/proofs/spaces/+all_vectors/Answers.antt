@@ -2,7 +2,7 @@ use Rattle.std.proofs.Common.{◌≡◌, ◌∷◌, ◌++◌, ◌-◌, suc, [], 
 use Rattle.std.specs.List.{range_with_len}
 use Rattle.mm_field.specs.Digits.{order}
 use Rattle.mm_linear.specs.Subspaces.{all_vectors}
-use Rattle.mm_reference.specs.Rows.{rows_of}
+use Rattle.mm_reference_meaning.specs.Rows.{rows_of}
 use Rattle.mm_reference.proofs.spaces.+all_vectors.Goals as goal
 
 pub returns-then-n-eq0 : goal.returns-then-n-eq0

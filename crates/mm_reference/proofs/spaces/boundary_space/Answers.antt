@@ -3,9 +3,9 @@ use Rattle.std.proofs.lemmas.List.{map_push, length-map}
 use Rattle.mm_field.specs.Vectors.{AreVectors}
 use Rattle.mm_linear.specs.ReducedEchelon.{IsLeftBasis}
 use Rattle.mm_logic.specs.BoundarySpaces.{boundary_space}
-use Rattle.mm_reference.specs.Rows.{rows_of}
+use Rattle.mm_reference_meaning.specs.Rows.{rows_of}
 use Rattle.mm_reference.specs.Spaces.{IsSpace, IsReducedRow}
-use Rattle.mm_reference.proofs.ColumnLemmas.{row_at}
+use Rattle.mm_reference_meaning.proofs.ColumnLemmas.{row_at}
 use Rattle.mm_reference.proofs.ReducedLemmas.{IsBefore, one_more_row, no_more_rows, all_before, shown, shown_vectors, shown_space, shown_basis}
 use Rattle.mm_reference.proofs.spaces.boundary_space.Goals as goal
 use Rattle.mm_reference.proofs.spaces.boundary_space.Goals.{in-Some+in_ok-to_vec+in_ok-push, in_default}

@@ -1,6 +1,6 @@
 use Rattle.mm_logic.specs.BoundarySpaces.{boundary_space}
 use Rattle.mm_linear.specs.ReducedEchelon.{IsLeftBasis}
-use Rattle.mm_reference.specs.Rows.{rows_of}
+use Rattle.mm_reference_meaning.specs.Rows.{rows_of}
 use Rattle.mm_reference.specs.Spaces.{IsSpace}
 use Rattle.mm_reference.proofs.ReducedLemmas.{IsBefore}
 use Rattle.mm_reference.proofs.spaces.boundary_space.Given as goal

@@ -3,8 +3,8 @@ use Rattle.std.proofs.lemmas.List.{length-map, map_push, take_all}
 use Rattle.std.proofs.lemmas.List.Elements.{filter_more}
 use Rattle.mm_field.specs.Vectors.{zeros, AreVectors}
 use Rattle.mm_linear.specs.Decide.{is_in_span}
-use Rattle.mm_reference.specs.Rows.{rows_of}
-use Rattle.mm_reference.proofs.ColumnLemmas.{row_at}
+use Rattle.mm_reference_meaning.specs.Rows.{rows_of}
+use Rattle.mm_reference_meaning.proofs.ColumnLemmas.{row_at}
 use Rattle.mm_reference.proofs.ReducedLemmas.{listed_vector}
 use Rattle.mm_reference.proofs.spaces.boundary_vectors.Goals as goal
 use Rattle.mm_reference.proofs.spaces.boundary_vectors.Goals.{then-branch+in_ok-to_vec+in_ok-push, else-branch}

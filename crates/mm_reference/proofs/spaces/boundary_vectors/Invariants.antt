@@ -1,7 +1,7 @@
 use Rattle.std.proofs.Common.{◌≡◌, ◌+◌, ◌++◌, filter, take}
 use Rattle.mm_field.specs.Vectors.{zeros}
 use Rattle.mm_linear.specs.Decide.{is_in_span}
-use Rattle.mm_reference.specs.Rows.{rows_of}
+use Rattle.mm_reference_meaning.specs.Rows.{rows_of}
 use Rattle.mm_reference.proofs.spaces.boundary_vectors.Given as goal
 
 abbrev pub invariant-loop-vector : goal.invariant-loop-vector

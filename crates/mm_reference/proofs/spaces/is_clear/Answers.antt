@@ -1,9 +1,9 @@
 use Rattle.std.proofs.Common.{[], length, get_or, sym, ap, ◌∙◌, subst, arith}
 use Rattle.std.proofs.lemmas.List.{length-map}
 use borrow.Author.Count.{below_more}
-use Rattle.mm_reference.specs.Rows.{rows_of}
+use Rattle.mm_reference_meaning.specs.Rows.{rows_of}
 use Rattle.mm_reference.specs.Spaces.{IsClearOf}
-use Rattle.mm_reference.proofs.ColumnLemmas.{row_at}
+use Rattle.mm_reference_meaning.proofs.ColumnLemmas.{row_at}
 use Rattle.mm_reference.proofs.spaces.is_clear.Goals as goal
 
 pub is_clear_of-requires-clause-same_length : goal.is_clear_of-requires-clause-same_length

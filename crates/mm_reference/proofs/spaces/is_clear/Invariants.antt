@@ -1,5 +1,5 @@
 use Rattle.std.proofs.Common.{◌<◌, ℕ, [], slice_index_or}
-use Rattle.mm_reference.specs.Rows.{rows_of}
+use Rattle.mm_reference_meaning.specs.Rows.{rows_of}
 use Rattle.mm_reference.specs.Spaces.{IsClearOf}
 use Rattle.mm_reference.proofs.spaces.is_clear.Given as goal
 

@@ -1,9 +1,9 @@
 use Rattle.std.proofs.Common.{◌≡◌, ◌<◌, ℕ, [], length, get_or, sym, ap, ◌∙◌, subst, arith}
 use Rattle.std.proofs.lemmas.List.{length-map}
 use borrow.Author.Count.{below_more}
-use Rattle.mm_reference.specs.Rows.{rows_of}
+use Rattle.mm_reference_meaning.specs.Rows.{rows_of}
 use Rattle.mm_reference.specs.Spaces.{IsReducedRow, IsClearOf, HasLead}
-use Rattle.mm_reference.proofs.ColumnLemmas.{row_at}
+use Rattle.mm_reference_meaning.proofs.ColumnLemmas.{row_at}
 use Rattle.mm_reference.proofs.spaces.reduced_place.Goals as goal
 use Rattle.mm_reference.proofs.spaces.reduced_place.Goals.{else-has_lead-via-then-has_lead+else-is_clear, else-has_lead-via-else-has_lead}
 

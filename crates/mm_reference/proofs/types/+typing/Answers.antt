@@ -11,10 +11,10 @@ use Rattle.mm_logic.specs.Value.{Value}
 use Rattle.mm_logic.proofs.SetLemmas.{list_any-map}
 use Rattle.mm_logic_laws.proofs.SplitLemmas.{length-assign}
 use Rattle.mm_logic_laws.proofs.LeastLemmas.{length-sets}
-use Rattle.mm_reference.specs.Trees.{tree_of}
-use Rattle.mm_reference.specs.Formulas.{formula_of, marks_of, tests_of}
+use Rattle.mm_reference_meaning.specs.Trees.{tree_of}
+use Rattle.mm_reference_meaning.specs.Formulas.{formula_of, marks_of, tests_of}
 use Rattle.mm_reference.specs.Values.{value_of, values_of}
-use Rattle.mm_reference.proofs.AssignmentLemmas.{length-singles, set_length, test_at, take_next}
+use Rattle.mm_reference_meaning.proofs.AssignmentLemmas.{length-singles, set_length, test_at, take_next}
 use Rattle.mm_reference.proofs.types.+typing.Goals as goal
 
 pub elem_type-read_type-requires : goal.elem_type-read_type-requires

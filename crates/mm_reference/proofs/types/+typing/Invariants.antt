@@ -1,8 +1,8 @@
 use Rattle.std.proofs.Common.{◌≡◌, ◌+◌, ◌*◌, map, take}
 use Rattle.mm_logic.specs.Marks.{assign}
 use Rattle.mm_logic.specs.Types as types
-use Rattle.mm_reference.specs.Trees.{tree_of}
-use Rattle.mm_reference.specs.Formulas.{formula_of, inner_nodes, marks_of, tests_of}
+use Rattle.mm_reference_meaning.specs.Trees.{tree_of}
+use Rattle.mm_reference_meaning.specs.Formulas.{formula_of, inner_nodes, marks_of, tests_of}
 use Rattle.mm_reference.specs.Values.{values_of}
 use Rattle.mm_reference.proofs.types.+typing.Given as goal
 

@@ -1,9 +1,9 @@
 use Rattle.std.proofs.Common.{map, ap, ◌∙◌}
 use Rattle.mm_logic.specs.Meaning.{union}
-use Rattle.mm_reference.specs.Rows.{rows_of}
-use Rattle.mm_reference.specs.Trees.{tree_of}
-use Rattle.mm_reference.specs.Formulas.{term_of, marks_of}
-use Rattle.mm_reference.proofs.AssignmentLemmas.{chosen_rows}
+use Rattle.mm_reference_meaning.specs.Rows.{rows_of}
+use Rattle.mm_reference_meaning.specs.Trees.{tree_of}
+use Rattle.mm_reference_meaning.specs.Formulas.{term_of, marks_of}
+use Rattle.mm_reference_meaning.proofs.AssignmentLemmas.{chosen_rows}
 use Rattle.mm_reference.proofs.types.ind_type.Goals as goal
 
 pub independent-requires : goal.independent-requires

@@ -5,7 +5,7 @@ use Rattle.mm_logic.specs.Value.{value_cmp, set_of}
 use Rattle.mm_reference.specs.Values.{value_of}
 use Rattle.mm_reference.specs.declared.values.Value.{Value, Flag, Dead, Span, Pair', Empty, With'}
 use Rattle.mm_reference.specs.declared.values.Value.TheViews.{With}
-use Rattle.mm_reference.specs.Rows.{rows_of}
+use Rattle.mm_reference_meaning.specs.Rows.{rows_of}
 use Rattle.mm_reference.proofs.InsertionLemmas.{put_first, there_already, put_later, put_alone}
 use Rattle.mm_reference.proofs.values.+insert.Goals as goal
 

@@ -1,7 +1,7 @@
 use Rattle.std.proofs.Common.{◌≡◌, length, sym, ap₂, ◌∙◌}
 use Rattle.std.specs.Ordering.{nat_cmp, ordering_then}
 use Rattle.std.proofs.lemmas.List.{length-map}
-use Rattle.mm_reference.specs.Rows.{rows_of}
+use Rattle.mm_reference_meaning.specs.Rows.{rows_of}
 use Rattle.mm_reference.proofs.OrderLemmas.{rows_cmp, cmp_spaces}
 use Rattle.mm_reference.proofs.values.compare_spaces.Goals as goal
 

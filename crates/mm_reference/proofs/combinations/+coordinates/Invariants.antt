@@ -1,5 +1,0 @@
-use Rattle.std.proofs.Common.{length}
-use Rattle.mm_reference.proofs.combinations.+coordinates.Given as goal
-
-abbrev pub decreases-coordinates : goal.decreases-coordinates
-decreases-coordinates l = length l.rows.now

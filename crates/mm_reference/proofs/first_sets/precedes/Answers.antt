@@ -1,6 +1,0 @@
-use Rattle.std.proofs.Common.{◌∙◌}
-use Rattle.mm_reference.proofs.WeightLemmas.{leaf_words}
-use Rattle.mm_reference.proofs.first_sets.precedes.Goals as goal
-
-pub returns : goal.returns
-returns c = c.lt.ensures ∙ leaf_words c.args.first.now c.args.second.now c.requires

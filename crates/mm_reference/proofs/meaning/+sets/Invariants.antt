@@ -1,4 +1,0 @@
-use Rattle.mm_reference.proofs.meaning.+sets.Given as goal
-
-abbrev pub decreases-sets : goal.decreases-sets
-decreases-sets l = l.n
