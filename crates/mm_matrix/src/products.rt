@@ -37,7 +37,11 @@ impl Matrix {
     /// The columns at some places, each as a row of the new matrix.
     pub fn columns(&self, alloc: Global, places: &[usize]) -> Result<Matrix, NoMemory>
         requires { All (λ j. j < self.now.cols) places.now }
-        ensures { IfOk result (λ m. m ≡ record { f = self.now.f; cols = length self.now.rows; rows = map (column self.now.rows) places.now }) }
+        ensures { IfOk result (λ m. m ≡ record {
+          f = self.now.f;
+          cols = length self.now.rows;
+          rows = map (column self.now.rows) places.now;
+        }) }
     {
         let mut columns = Matrix::new(alloc, self.field(), self.rows());
         for k in 0..places.len() {

@@ -142,7 +142,8 @@ pub(crate) fn collect(
     requires room { shapes.size (shape (named node.now)) + after ≤ total }
     ensures boundary { IfOk result (λ m. m ≡ boundary_matrix f (shape (named node.now))) }
     ensures internal { OnOk result ((before : ℕ) → before + (shapes.size (shape (named node.now)) + after) ≡ total →
-        map (λ r. r.items) internal.new.items ≡ map (λ r. r.items) internal.old.items ++ reverse (placed_rows f before after (shape (named node.now)))) }
+        map (λ r. r.items) internal.new.items ≡
+        map (λ r. r.items) internal.old.items ++ reverse (placed_rows f before after (shape (named node.now)))) }
 {
     match node {
         Node::Leaf(leaf) => leaf_rows(alloc, f, leaf),

@@ -88,7 +88,11 @@ fn digits_at(alloc: Global, row: &[u8], places: &[Option<usize>]) -> Result<Vec<
 /// The rows with their columns in another order.
 fn in_order(alloc: Global, rows: &Matrix, places: &[Option<usize>]) -> Result<Matrix, NoMemory>
     requires { All (λ place. IsPlaceBelow rows.now.cols place) places.now }
-    ensures { IfOk result (λ m. m ≡ record { f = rows.now.f; cols = length places.now; rows = map (λ row. map (digit_at row) places.now) rows.now.rows }) }
+    ensures { IfOk result (λ m. m ≡ record {
+      f = rows.now.f;
+      cols = length places.now;
+      rows = map (λ row. map (digit_at row) places.now) rows.now.rows;
+    }) }
 {
     let mut ordered = Matrix::new(alloc, rows.field(), places.len());
     for i in 0..rows.rows() {

@@ -13,7 +13,8 @@ use std::alloc::Global;
 
 /// Whether the set of all elements of the tree is independent.
 pub fn is_independent(alloc: Global, tree: &Tree) -> Result<bool, NoMemory>
-    ensures { IfOk result (λ b. b ≡ is_independent_set tree.now.f (shape tree.now.tree) (replicate (shapes.size (shape tree.now.tree)) true)) }
+    ensures { IfOk result (λ b. b ≡
+        is_independent_set tree.now.f (shape tree.now.tree) (replicate (shapes.size (shape tree.now.tree)) true)) }
 {
     let _ = tree.node();
     let present = matrix_of(alloc, tree)?;

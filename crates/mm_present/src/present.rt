@@ -38,7 +38,11 @@ fn stack(alloc: Global, mut matrix: Matrix, mut rows: Vec<Vec<u8>>) -> Result<Ma
 /// The matrix of the tree: its boundary rows and then its internal rows, over its elements in leaf order.
 pub fn matrix_of(alloc: Global, tree: &Tree) -> Result<Named, NoMemory>
     ensures names { IfOk result (λ n. n.names ≡ element_names tree.now.tree) }
-    ensures rows { IfOk result (λ n. n.rows ≡ record { f = tree.now.f; cols = shapes.size (shape tree.now.tree); rows = present_rows tree.now.f tree.now.tree }) }
+    ensures rows { IfOk result (λ n. n.rows ≡ record {
+      f = tree.now.f;
+      cols = shapes.size (shape tree.now.tree);
+      rows = present_rows tree.now.f tree.now.tree;
+    }) }
 {
     let names = tree.elements(alloc)?;
     let mut internal = Vec::new(alloc);

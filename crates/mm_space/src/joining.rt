@@ -237,7 +237,8 @@ fn insert_apart(f: Field, width: usize, key: &Key, form: &FormRows, rows: &mut J
     requires independent { AreIndependent f 24 (take key.now.t form.now) }
     requires held { IsHeld f 24 width rows.old }
     ensures apart { result ≡ true → IsApartFrom f 24 width rows.old (form_images f key.now.t form.now key.now.rows) 0 rows.new }
-    ensures meet { result ≡ false → MeetTrivially 24 (InSpan f 24 rows.old) (InSpan f 24 (form_images f key.now.t form.now key.now.rows)) → ⊥ }
+    ensures meet { result ≡ false →
+        MeetTrivially 24 (InSpan f 24 rows.old) (InSpan f 24 (form_images f key.now.t form.now key.now.rows)) → ⊥ }
     ensures key { IsReduced key.now }
 {
     for i in (0..key.rank()).rev() {

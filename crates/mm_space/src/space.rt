@@ -101,7 +101,8 @@ impl Space {
     pub fn meets_only_in_zero(&self, other: &Space) -> bool
         requires field { other.now.f ≡ self.now.f }
         requires length { other.now.r ≡ self.now.r }
-        ensures { IsTrue result ↔ MeetTrivially self.now.r (InSpan self.now.f self.now.r self.now.rows) (InSpan self.now.f self.now.r other.now.rows) }
+        ensures { IsTrue result ↔
+            MeetTrivially self.now.r (InSpan self.now.f self.now.r self.now.rows) (InSpan self.now.f self.now.r other.now.rows) }
     {
         meet_in_zero(self.field, self.r as usize, &self.rows, &other.rows)
     }

@@ -229,7 +229,8 @@ impl Builder {
 
     /// The tree, where there is exactly one. After that the builder is as new; a builder that refuses is as before.
     pub fn finish(&mut self) -> Result<Tree, BuildFault>
-        ensures ok { IfOk result (λ made. (self.old.trees ≡ made.tree ∷ []) × (made.f ≡ self.old.f) × (self.new.f ≡ self.old.f) × (self.new.trees ≡ [])) }
+        ensures ok { IfOk result (λ made. (self.old.trees ≡ made.tree ∷ []) × (made.f ≡ self.old.f)
+            × (self.new.f ≡ self.old.f) × (self.new.trees ≡ [])) }
         ensures err { IfErr result (λ e. (e ≡ TooFew) × (self.new ≡ self.old) × (length self.old.trees ≡ 1 → ⊥)) }
     {
         if self.trees.len() != 1 {

@@ -206,7 +206,8 @@ impl Tree {
     fn outside(&self, place: &Place, names: &IndexSet<Name>) -> Outside
         requires { IsPlaceOf self.now.tree place.now }
         ensures few { result.leaves ≤ 16383 }
-        ensures seen { result ≡ with_leaves names.now.keys (record { leaves = 0; taken = None }) (names_outside self.now.tree (path_of place.now.number self.now.tree)) }
+        ensures seen { result ≡
+            with_leaves names.now.keys (record { leaves = 0; taken = None }) (names_outside self.now.tree (path_of place.now.number self.now.tree)) }
     {
         let mut seen = Outside::nothing();
         replace::see_outside(&self.node, Some(place.number()), names, &mut seen);
