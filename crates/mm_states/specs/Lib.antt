@@ -1,2 +1,4 @@
 pub mod Letters
 pub mod Calls
+pub mod Cells
+pub mod Memos

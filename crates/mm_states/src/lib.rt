@@ -8,9 +8,13 @@
 #![tactic(auto)]
 
 mod automaton;
+mod cache;
+mod grid;
 mod letter;
+mod memo;
 mod table;
 
 pub use automaton::Automaton;
 pub use letter::{AutoFault, Letter};
+pub use memo::JoinMemo;
 pub use table::{Table, TypeId};
