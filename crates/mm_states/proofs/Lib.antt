@@ -1,3 +1,5 @@
 pub mod GridLemmas
 pub mod CacheLemmas
 pub mod MemoLemmas
+pub mod FitLemmas
+pub mod KeyLemmas

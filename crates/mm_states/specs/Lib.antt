@@ -2,3 +2,4 @@ pub mod Letters
 pub mod Calls
 pub mod Cells
 pub mod Memos
+pub mod Lists
