@@ -1,3 +1,4 @@
 pub mod Atoms
 pub mod Spaces
 pub mod Terms
+pub mod OneAtom

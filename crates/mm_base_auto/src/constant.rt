@@ -35,6 +35,13 @@ impl ConstAuto {
         }
     }
 
+    /// How many values there are. No memory.
+    pub fn len(&self) -> u64
+        ensures { result ≡ length self.now.flags.flags.items }
+    {
+        self.flags.cells()
+    }
+
     /// The value of a number. No memory.
     pub fn value(&self, _id: TypeId) -> AtomValue
         requires { _id < length self.now.flags.flags.items }

@@ -86,6 +86,13 @@ impl IndAuto {
         }
     }
 
+    /// How many values there are. No memory.
+    pub fn len(&self) -> u64
+        ensures { result ≡ length self.now.values.table }
+    {
+        self.values.cells()
+    }
+
     /// The value of a number. No memory.
     pub fn value(&self, id: TypeId) -> AtomValue
         requires { id < length self.now.values.table }

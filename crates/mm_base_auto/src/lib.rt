@@ -5,6 +5,7 @@
 //! elimination. `value` shows the type of a number.
 #![tactic(auto)]
 
+mod atom;
 mod constant;
 mod flags;
 mod ind;
@@ -15,6 +16,7 @@ mod space;
 mod subset;
 mod value;
 
+pub use atom::Atom;
 pub use constant::ConstAuto;
 pub use ind::{IndAuto, SlotTerm};
 pub use member::MemberAuto;

@@ -56,6 +56,13 @@ impl MemberAuto {
         }
     }
 
+    /// How many values there are. No memory.
+    pub fn len(&self) -> u64
+        ensures { result ≡ length self.now.flags.flags.items }
+    {
+        self.flags.cells()
+    }
+
     /// The value of a number. No memory.
     pub fn value(&self, id: TypeId) -> AtomValue
         requires { id < length self.now.flags.flags.items }
