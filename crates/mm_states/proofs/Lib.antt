@@ -3,3 +3,4 @@ pub mod CacheLemmas
 pub mod MemoLemmas
 pub mod FitLemmas
 pub mod KeyLemmas
+mod NumberedLemmas

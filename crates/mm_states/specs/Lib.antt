@@ -2,4 +2,5 @@ pub mod Letters
 pub mod Calls
 pub mod Cells
 pub mod Memos
+pub mod Numbered
 pub mod Lists

@@ -2,7 +2,7 @@
 use Rattle.std.specs.Prelude.{ℕ, Bool, false, List, slice_get, Option, Some, None, if◌then◌else◌}
 use Rattle.mm_states.specs.declared.grid.Grid.{Grid}
 use Rattle.mm_states.specs.declared.cache.Slot.{Slot}
-use Rattle.mm_states.specs.declared.memo.JoinMemo.{JoinMemo}
+use Rattle.mm_states.specs.declared.joins.JoinMemo.{JoinMemo}
 use Rattle.mm_states.specs.Cells.{covers, grid_answer, cache_answer}
 
 -- whether a join has a cell in the grid of its operator

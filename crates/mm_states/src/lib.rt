@@ -10,11 +10,13 @@
 mod automaton;
 mod cache;
 mod grid;
+mod joins;
 mod letter;
 mod memo;
 mod table;
 
 pub use automaton::Automaton;
+pub use joins::JoinMemo;
 pub use letter::{AutoFault, Letter};
-pub use memo::JoinMemo;
+pub use memo::Memo;
 pub use table::{Table, TypeId};

@@ -1,192 +1,106 @@
-//! Joins that are remembered.
+//! Joins that are remembered, by their operators.
 
-ghost use Rattle.std.specs.Prelude.{◌≡◌, ◌<◌, ◌≤◌, ℕ, true, None, Some, IfSome, IfOk, OnOk, []};
-ghost use Rattle.mm_states.specs.Cells.{Forgets, Keeps};
-ghost use Rattle.mm_states.specs.Memos.{covered, joins_answer};
+ghost use Rattle.std.specs.Prelude.{◌≡◌, ◌<◌, ◌≤◌, ℕ, Some, IfOk, OnOk, length, false, []};
+ghost use Rattle.std.specs.List.{list_any};
+ghost use Rattle.mm_ops.specs.OpValue.{OpValue};
+ghost use Rattle.mm_states.specs.Numbered.{IsNumbered, op_same, prop_numbered, number_of, answer_by, ForgetsJoins, KeepsJoin};
+ghost use Rattle.mm_states.specs.Memos.{joins_answer};
 
-use crate::cache::Cache;
-use crate::grid::{Grid, NOTHING, larger};
-use crate::table::TypeId;
+use crate::joins::JoinMemo;
+use crate::table::{Table, TypeId};
 use mm_base::NoMemory;
+use mm_ops::Op;
 use std::alloc::Global;
 
-/// The most operators that have a grid of their own.
-const MAX_GRIDS: usize = 4096;
+/// The most operators that a memo numbers: one more, and it forgets all.
+const MAX_OPERATORS: u32 = 65_536;
 
-/// The most ids on each side of a grid.
-const MAX_WIDTH: usize = 1024;
-
-/// The most cells of all grids.
-const MAX_CELLS: usize = 1_048_576;
-
-/// The ids on each side of the first grid of an operator.
-const FIRST_WIDTH: usize = 8;
-
-/// Of how many cells one must have been kept for a grid to grow.
-const SPARSE: usize = 16;
-
-/// Joins that are remembered, by the number of the operator and the numbers of the two types.
+/// Joins that are remembered, by their operators. It never answers for another operator, and may forget others whenever it keeps one.
 ///
-/// While an operator meets few types, a grid of its own has the answers: a look-up is one load. Joins of other types are kept in one
-/// cache, at the one place that each may have: a look-up compares one entry. So it has a bounded number of entries, some two million
-/// at most, and may forget others whenever it keeps one.
+/// It numbers operators within itself. What makes many joins by one operator asks for its number once ([`Memo::number`]).
 #[derive(Drop)]
-pub struct JoinMemo {
-    grids: Vec<Grid>,
-    cells: usize,
-    cache: Cache,
+pub struct Memo {
+    ops: Table<Op>,
+    joins: JoinMemo,
+    ghost few: { length ops ≤ 65536 },
+    ghost known: { IsNumbered ops (joins_answer joins) } by { prop_numbered ops (joins_answer joins) },
 }
 
-impl JoinMemo {
+impl Memo {
     /// Remembers nothing. It takes no memory.
-    pub fn new(alloc: Global) -> JoinMemo
-        ensures { (op left right id : ℕ) → joins_answer result op left right ≡ Some id → ⊥ }
+    pub fn new(alloc: Global) -> Memo
+        ensures { (op : OpValue) (left right id : ℕ) → (answer_by result.ops (joins_answer result.joins)) op left right ≡ Some id → ⊥ }
     {
-        JoinMemo {
-            grids: Vec::new(alloc),
-            cells: 0,
-            cache: Cache::new(alloc),
+        Memo {
+            ops: Table::new(alloc),
+            joins: JoinMemo::new(alloc),
         }
     }
 
     /// The number of a join, where it is remembered. No memory.
-    #[inline]
-    pub fn find(&self, op: u32, left: TypeId, right: TypeId) -> Option<TypeId>
-        ensures answer { result ≡ joins_answer self.now op left right }
-        ensures number { IfSome result (λ id. id < 4294967295) }
+    pub fn find(&self, op: &Op, left: TypeId, right: TypeId) -> Option<TypeId>
+        ensures { result ≡ answer_by self.now.ops (joins_answer self.now.joins) op.now left right }
     {
-        match self.grids.get(op as usize) {
-            Some(grid) => {
-                if grid.covers(left, right) {
-                    return grid.find(left, right);
-                }
-                self.cache.find(op, left, right)
-            }
-            None => self.cache.find(op, left, right),
+        match self.ops.find(op) {
+            Some(number) => self.joins.find(number, left, right),
+            None => None,
         }
     }
 
-    /// Remembers a join, and may forget others. `NoMemory` also where its number is 2^32 - 1.
+    /// Remembers a join, and may forget others.
     pub fn keep(
         &mut self,
         alloc: Global,
-        op: u32,
+        op: &Op,
         left: TypeId,
         right: TypeId,
         id: TypeId,
     ) -> Result<(), NoMemory>
-        ensures there { OnOk result (joins_answer self.new op left right ≡ Some id) }
-        ensures others { Keeps (joins_answer self.old) (joins_answer self.new) op left right id }
+        ensures there { OnOk result (answer_by self.new.ops (joins_answer self.new.joins) op.now left right ≡ Some id) }
+        ensures others { KeepsJoin (answer_by self.old.ops (joins_answer self.old.joins)) (answer_by self.new.ops (joins_answer self.new.joins)) op.now left right id }
     {
-        if id == NOTHING {
-            return Err(NoMemory);
-        }
-        self.make_grid(alloc, op, left, right);
-        self.put(alloc, op, left, right, id)
-    }
-
-    // Puts a join into its cell, or into the cache.
-    fn put(
-        &mut self,
-        alloc: Global,
-        op: u32,
-        left: TypeId,
-        right: TypeId,
-        id: TypeId,
-    ) -> Result<(), NoMemory>
-        requires { id < 4294967295 }
-        ensures there { OnOk result (joins_answer self.new op left right ≡ Some id) }
-        ensures others { Keeps (joins_answer self.old) (joins_answer self.new) op left right id }
-    {
-        if !self.is_covered(op, left, right) {
-            return self.cache.keep(alloc, op, left, right, id);
-        }
-        self.grids[op as usize].put(left, right, id);
-        Ok(())
+        let number = self.number(alloc, op)?;
+        self.joins.keep(alloc, number, left, right, id)
     }
 
     /// Forgets all. No memory.
     pub fn clear(&mut self)
-        ensures { (op left right id : ℕ) → joins_answer self.new op left right ≡ Some id → ⊥ }
+        ensures operators { self.new.ops ≡ [] }
+        ensures joins { (op : OpValue) (left right id : ℕ) → answer_by self.new.ops (joins_answer self.new.joins) op left right ≡ Some id → ⊥ }
     {
-        self.grids.clear();
-        self.cells = 0;
-        self.cache.clear();
+        self.joins.clear();
+        self.ops.cut(0);
     }
 
-    // Whether a join has a cell in a grid.
-    fn is_covered(&self, op: u32, left: TypeId, right: TypeId) -> bool
-        ensures { result ≡ covered self.now.grids.items op left right }
+    // The number of an operator, which is new where it has none. It may forget joins.
+    fn number(&mut self, alloc: Global, op: &Op) -> Result<u32, NoMemory>
+        ensures number { IfOk result (λ n. number_of self.new.ops op.now ≡ Some n) }
+        ensures forgets { ForgetsJoins (answer_by self.old.ops (joins_answer self.old.joins)) (answer_by self.new.ops (joins_answer self.new.joins)) }
     {
-        match self.grids.get(op as usize) {
-            Some(grid) => grid.covers(left, right),
-            None => false,
-        }
-    }
-
-    // Makes a grid with a cell for a join, where that is worth its memory and there is memory.
-    fn make_grid(&mut self, alloc: Global, op: u32, left: TypeId, right: TypeId)
-        ensures { Forgets (joins_answer self.old) (joins_answer self.new) }
-    {
-        if self.is_covered(op, left, right) || op as usize >= MAX_GRIDS {
-            return;
-        }
-        self.make_empty_grids(alloc, op as usize);
-        if let Some(width) = self.wanted_width(op, left, right) {
-            self.widen(alloc, op as usize, width);
+        self.make_room();
+        match self.ops.find(op) {
+            Some(number) => Ok(number),
+            None => self.add(alloc, op),
         }
     }
 
-    // The width that a grid with a cell for a join has, where that is worth its memory.
-    fn wanted_width(&self, op: u32, left: TypeId, right: TypeId) -> Option<usize>
-        ensures { IfSome result (λ width. width ≤ 1024) }
+    // Forgets all where too many operators have numbers.
+    fn make_room(&mut self)
+        ensures room { length self.new.ops < 65536 }
+        ensures forgets { ForgetsJoins (answer_by self.old.ops (joins_answer self.old.joins)) (answer_by self.new.ops (joins_answer self.new.joins)) }
     {
-        let widest = left.max(right) as usize;
-        if widest >= MAX_WIDTH {
-            return None;
-        }
-        let width = (widest + 1).next_power_of_two().max(FIRST_WIDTH);
-        let grid = self.grids.get(op as usize)?;
-        if width > MAX_WIDTH || !grid.is_worth(width, SPARSE) {
-            return None;
-        }
-        if self.cells.saturating_add(width * width) > MAX_CELLS {
-            return None;
-        }
-        Some(width)
-    }
-
-    // Exchanges a grid for a wider one with the same answers, where there is memory.
-    fn widen(&mut self, alloc: Global, op: usize, width: usize)
-        requires { width ≤ 1024 }
-        ensures { Forgets (joins_answer self.old) (joins_answer self.new) }
-    {
-        if op >= self.grids.len() {
-            return;
-        }
-        let old = &self.grids[op];
-        if width < old.width() {
-            return;
-        }
-        if let Ok(wider) = larger(alloc, width, old) {
-            self.grids[op] = wider;
-            self.cells = self.cells.saturating_add(width * width);
+        if self.ops.len() >= MAX_OPERATORS {
+            self.clear();
         }
     }
 
-    // Makes grids without cells up to this operator, while there is memory.
-    fn make_empty_grids(&mut self, alloc: Global, op: usize)
-        ensures { Forgets (joins_answer self.old) (joins_answer self.new) }
+    // Gives a number to an operator that has none.
+    fn add(&mut self, alloc: Global, op: &Op) -> Result<u32, NoMemory>
+        requires absent { list_any (op_same op.now) self.old.ops ≡ false }
+        requires room { length self.old.ops < 65536 }
+        ensures number { IfOk result (λ n. number_of self.new.ops op.now ≡ Some n) }
+        ensures forgets { ForgetsJoins (answer_by self.old.ops (joins_answer self.old.joins)) (answer_by self.new.ops (joins_answer self.new.joins)) }
     {
-        for _ in self.grids.len()..op.saturating_add(1) {
-            self.push_grid(alloc);
-        }
-    }
-
-    // Makes one more grid without cells, where there is memory.
-    fn push_grid(&mut self, alloc: Global)
-        ensures { Forgets (joins_answer self.old) (joins_answer self.new) }
-    {
-        let _ = self.grids.push(Grid::new(alloc));
+        self.ops.put(alloc, *op)
     }
 }
