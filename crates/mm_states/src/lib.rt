@@ -8,9 +8,15 @@
 #![tactic(auto)]
 
 mod automaton;
+mod cache;
+mod grid;
+mod joins;
 mod letter;
+mod memo;
 mod table;
 
 pub use automaton::Automaton;
+pub use joins::JoinMemo;
 pub use letter::{AutoFault, Letter};
+pub use memo::Memo;
 pub use table::{Table, TypeId};

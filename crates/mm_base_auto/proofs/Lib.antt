@@ -1,0 +1,4 @@
+pub mod AtomLemmas
+pub mod IndLemmas
+pub mod SpaceTableLemmas
+mod PackedLemmas

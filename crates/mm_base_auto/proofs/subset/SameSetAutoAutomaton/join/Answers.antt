@@ -1,0 +1,18 @@
+use Rattle.std.proofs.Common.{[], ◌∷◌, ◌∙◌}
+use Rattle.mm_logic.specs.Formula.Formula.{SameSet}
+use Rattle.mm_logic.specs.AtomValues.{holding_join}
+use Rattle.mm_states.specs.Calls.{value_of_join}
+use Rattle.mm_base_auto.specs.Atoms.{flag_values}
+use Rattle.mm_base_auto.proofs.AtomLemmas.{flag_answers, flag_room, flag_type}
+use Rattle.mm_base_auto.proofs.subset.SameSetAutoAutomaton.join.Goals as goal
+
+pub put-requires : goal.put-requires
+put-requires c = flag_room (SameSet c.args.self.now.a c.args.self.now.b) tt c.args.self.now.flags.flags.items c.args.room c.requires.roomy
+
+pub returns-clause-answer : goal.returns-clause-answer
+returns-clause-answer c =
+    let flags = c.args.self.now.flags.flags.items in
+    let left = flag_type flags c.args.left c.get.result c.requires.left_operand.within c.get.ensures in
+    let right = flag_type flags c.args.right c.get-2.result c.requires.right_operand.within c.get-2.ensures in
+    flag_answers (SameSet c.args.self.now.a c.args.self.now.b) tt (value_of_join (SameSet c.args.self.now.a c.args.self.now.b) (flag_values c.args.self.now.flags.flags.items ∷ []) c.args._op.now c.args.left c.args.right) c.joined-flag.result c.args.self.now.flags.flags.items c.put.new.self.flags.items c.args.room c.put.result
+    (c.joined-flag.ensures ∙ (λ i. holding_join (left i) (right i))) c.put.ensures.answer

@@ -1,0 +1,4 @@
+pub mod Atoms
+pub mod Spaces
+pub mod Terms
+pub mod OneAtom
