@@ -96,7 +96,8 @@ impl IndAuto {
     /// The value of a number. No memory.
     pub fn value(&self, id: TypeId) -> AtomValue
         requires { id < length self.now.values.table }
-        ensures { result ≡ shown self.now.field (Ind (term_of self.now.whole self.now.slots.items)) (slice_index_or (ind_values self.now.values.table) id value.Dead) }
+        ensures { result ≡ shown self.now.field (Ind (term_of self.now.whole self.now.slots.items))
+            (slice_index_or (ind_values self.now.values.table) id value.Dead) }
     {
         match self.values.get(id) {
             IndValue::Dead => AtomValue::Dead,
@@ -145,7 +146,8 @@ impl IndAuto {
         ensures slots { self.new.slots.items ≡ self.old.slots.items }
         ensures mark { self.new.values.mark ≡ self.old.values.mark }
         ensures kept { take self.old.values.mark self.new.values.table ≡ take self.old.values.mark self.old.values.table }
-        ensures answer { Answers (Ind (term_of self.old.whole self.old.slots.items)) (ind_value value.now) (ind_values self.old.values.table ∷ []) (ind_values self.new.values.table ∷ []) room result }
+        ensures answer { Answers (Ind (term_of self.old.whole self.old.slots.items)) (ind_value value.now)
+            (ind_values self.old.values.table ∷ []) (ind_values self.new.values.table ∷ []) room result }
     {
         self.values.put(alloc, value, room)
     }

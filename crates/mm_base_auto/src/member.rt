@@ -66,7 +66,8 @@ impl MemberAuto {
     /// The value of a number. No memory.
     pub fn value(&self, id: TypeId) -> AtomValue
         requires { id < length self.now.flags.flags.items }
-        ensures { result ≡ shown Field.Two (Member self.now.x self.now.set) (slice_index_or (flag_values self.now.flags.flags.items) id value.Dead) }
+        ensures { result ≡ shown Field.Two (Member self.now.x self.now.set)
+            (slice_index_or (flag_values self.now.flags.flags.items) id value.Dead) }
     {
         match self.flags.get(id) {
             UNSEEN => AtomValue::Unseen,

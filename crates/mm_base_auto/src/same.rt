@@ -76,7 +76,8 @@ impl SameAuto {
     /// The value of a number. No memory.
     pub fn value(&self, id: TypeId) -> AtomValue
         requires { id < length self.now.flags.flags.items }
-        ensures { result ≡ shown Field.Two (SameElem self.now.x self.now.y) (slice_index_or (flag_values self.now.flags.flags.items) id value.Dead) }
+        ensures { result ≡ shown Field.Two (SameElem self.now.x self.now.y)
+            (slice_index_or (flag_values self.now.flags.flags.items) id value.Dead) }
     {
         match self.flags.get(id) {
             NEITHER => AtomValue::Neither,

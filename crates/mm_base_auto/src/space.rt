@@ -84,7 +84,8 @@ fn joined_spaces(op: &Op, left: &Key, right: &Key, rows: &mut JoinRows) -> IndVa
     requires left_boundary { left.now.t ≡ op.now.op.t1 }
     requires right_boundary { right.now.t ≡ op.now.op.t2 }
     ensures over { IsSpaceOver op.now.f result }
-    ensures value { ind_value result ≡ ind_join op.now.f op.now.op (value.Span left.now.t left.now.rows) (value.Span right.now.t right.now.rows) }
+    ensures value { ind_value result ≡
+        ind_join op.now.f op.now.op (value.Span left.now.t left.now.rows) (value.Span right.now.t right.now.rows) }
 {
     let _field = op.field();
     match op.join(left, right, rows) {

@@ -80,7 +80,8 @@ impl SubAuto {
     /// The value of a number. No memory.
     pub fn value(&self, id: TypeId) -> AtomValue
         requires { id < length self.now.flags.flags.items }
-        ensures { result ≡ shown Field.Two (Sub self.now.a self.now.b) (slice_index_or (flag_values self.now.flags.flags.items) id value.Dead) }
+        ensures { result ≡ shown Field.Two (Sub self.now.a self.now.b)
+            (slice_index_or (flag_values self.now.flags.flags.items) id value.Dead) }
     {
         shown_holding(self.flags.get(id))
     }
@@ -188,7 +189,8 @@ impl SameSetAuto {
     /// The value of a number. No memory.
     pub fn value(&self, id: TypeId) -> AtomValue
         requires { id < length self.now.flags.flags.items }
-        ensures { result ≡ shown Field.Two (SameSet self.now.a self.now.b) (slice_index_or (flag_values self.now.flags.flags.items) id value.Dead) }
+        ensures { result ≡ shown Field.Two (SameSet self.now.a self.now.b)
+            (slice_index_or (flag_values self.now.flags.flags.items) id value.Dead) }
     {
         shown_holding(self.flags.get(id))
     }

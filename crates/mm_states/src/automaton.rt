@@ -59,7 +59,8 @@ pub trait Automaton: Drop {
         ensures shape { shape self.new ≡ shape self.old }
         ensures field { field self.new ≡ field self.old }
         ensures marked { marked self.new ≡ marked self.old }
-        ensures answer { Answers (shape self.old) (value_of_join (shape self.old) (lists self.old) op.now left right) (lists self.old) (lists self.new) room result };
+        ensures answer { Answers (shape self.old) (value_of_join (shape self.old) (lists self.old) op.now left right)
+            (lists self.old) (lists self.new) room result };
 
     /// Whether the type of a number is accepted: the formula holds on a tree that has this type at its root. No memory.
     fn accepts(&self, id: TypeId) -> bool

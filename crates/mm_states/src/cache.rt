@@ -99,7 +99,8 @@ impl Cache {
         requires { id < 4294967295 }
         ensures shift { self.new.shift ≡ self.old.shift }
         ensures there { result ≡ true → cache_answer self.new.shift self.new.slots.items op left right ≡ Some id }
-        ensures others { Keeps (cache_answer self.old.shift self.old.slots.items) (cache_answer self.new.shift self.new.slots.items) op left right id }
+        ensures others { Keeps (cache_answer self.old.shift self.old.slots.items)
+            (cache_answer self.new.shift self.new.slots.items) op left right id }
     {
         let place = self.place(op, left, right);
         if place >= self.slots.len() {
@@ -125,7 +126,8 @@ impl Cache {
     ) -> Result<(), NoMemory>
         requires { id < 4294967295 }
         ensures there { OnOk result (cache_answer self.new.shift self.new.slots.items op left right ≡ Some id) }
-        ensures others { Keeps (cache_answer self.old.shift self.old.slots.items) (cache_answer self.new.shift self.new.slots.items) op left right id }
+        ensures others { Keeps (cache_answer self.old.shift self.old.slots.items)
+            (cache_answer self.new.shift self.new.slots.items) op left right id }
     {
         self.make_places(alloc);
         self.kept = self.kept.saturating_add(1);

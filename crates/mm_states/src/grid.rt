@@ -74,7 +74,8 @@ impl Grid {
         requires number { id < 4294967295 }
         ensures width { self.new.width ≡ self.old.width }
         ensures there { grid_answer self.new.width self.new.cells.items left right ≡ Some id }
-        ensures others { KeepsIn (grid_answer self.old.width self.old.cells.items) (grid_answer self.new.width self.new.cells.items) left right id }
+        ensures others { KeepsIn (grid_answer self.old.width self.old.cells.items)
+            (grid_answer self.new.width self.new.cells.items) left right id }
     {
         self.cells[left as usize * self.width + right as usize] = id;
         self.kept = self.kept.saturating_add(1);

@@ -57,7 +57,8 @@ impl Memo {
         id: TypeId,
     ) -> Result<(), NoMemory>
         ensures there { OnOk result (answer_by self.new.ops (joins_answer self.new.joins) op.now left right ≡ Some id) }
-        ensures others { KeepsJoin (answer_by self.old.ops (joins_answer self.old.joins)) (answer_by self.new.ops (joins_answer self.new.joins)) op.now left right id }
+        ensures others { KeepsJoin (answer_by self.old.ops (joins_answer self.old.joins))
+            (answer_by self.new.ops (joins_answer self.new.joins)) op.now left right id }
     {
         let number = self.number(alloc, op)?;
         self.joins.keep(alloc, number, left, right, id)
@@ -66,7 +67,8 @@ impl Memo {
     /// Forgets all. No memory.
     pub fn clear(&mut self)
         ensures operators { self.new.ops ≡ [] }
-        ensures joins { (op : OpValue) (left right id : ℕ) → answer_by self.new.ops (joins_answer self.new.joins) op left right ≡ Some id → ⊥ }
+        ensures joins { (op : OpValue) (left right id : ℕ) →
+            answer_by self.new.ops (joins_answer self.new.joins) op left right ≡ Some id → ⊥ }
     {
         self.joins.clear();
         self.ops.cut(0);
@@ -75,7 +77,8 @@ impl Memo {
     // The number of an operator, which is new where it has none. It may forget joins.
     fn number(&mut self, alloc: Global, op: &Op) -> Result<u32, NoMemory>
         ensures number { IfOk result (λ n. number_of self.new.ops op.now ≡ Some n) }
-        ensures forgets { ForgetsJoins (answer_by self.old.ops (joins_answer self.old.joins)) (answer_by self.new.ops (joins_answer self.new.joins)) }
+        ensures forgets { ForgetsJoins (answer_by self.old.ops (joins_answer self.old.joins))
+            (answer_by self.new.ops (joins_answer self.new.joins)) }
     {
         self.make_room();
         match self.ops.find(op) {
@@ -87,7 +90,8 @@ impl Memo {
     // Forgets all where too many operators have numbers.
     fn make_room(&mut self)
         ensures room { length self.new.ops < 65536 }
-        ensures forgets { ForgetsJoins (answer_by self.old.ops (joins_answer self.old.joins)) (answer_by self.new.ops (joins_answer self.new.joins)) }
+        ensures forgets { ForgetsJoins (answer_by self.old.ops (joins_answer self.old.joins))
+            (answer_by self.new.ops (joins_answer self.new.joins)) }
     {
         if self.ops.len() >= MAX_OPERATORS {
             self.clear();
@@ -99,7 +103,8 @@ impl Memo {
         requires absent { list_any (op_same op.now) self.old.ops ≡ false }
         requires room { length self.old.ops < 65536 }
         ensures number { IfOk result (λ n. number_of self.new.ops op.now ≡ Some n) }
-        ensures forgets { ForgetsJoins (answer_by self.old.ops (joins_answer self.old.joins)) (answer_by self.new.ops (joins_answer self.new.joins)) }
+        ensures forgets { ForgetsJoins (answer_by self.old.ops (joins_answer self.old.joins))
+            (answer_by self.new.ops (joins_answer self.new.joins)) }
     {
         self.ops.put(alloc, *op)
     }
