@@ -50,7 +50,7 @@ dot-zeros f n [] = refl
 dot-zeros f zero (a ∷ v) = refl
 dot-zeros f (suc n) (a ∷ v) = ap₂ (plus f) (times-zero f a) (dot-zeros f n v) ∙ plus_zeros f
 
-dot_below : (f : Field) (xs ys : List ℕ) → dot f xs ys < order f
+pub dot_below : (f : Field) (xs ys : List ℕ) → dot f xs ys < order f
 dot_below f [] ys = zero_digit f
 dot_below f (x ∷ xs) [] = zero_digit f
 dot_below f (x ∷ xs) (y ∷ ys) = plus_below f (times f x y) (dot f xs ys)

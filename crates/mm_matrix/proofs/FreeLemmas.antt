@@ -52,7 +52,7 @@ AreVectors-kernel_vectors f n rows ks (j ∷ js) h hj =
 
 -- ---- at a lead the projection is zero
 
-combination-unit : (f : Field) (n i : ℕ) (rows : List (List ℕ)) → AreVectors f n rows → i < length rows →
+pub combination-unit : (f : Field) (n i : ℕ) (rows : List (List ℕ)) → AreVectors f n rows → i < length rows →
     combination f n (unit (length rows) i) rows ≡ get_or rows i []
 combination-unit f n i [] h l = absurd (omega arith)
 combination-unit f n zero (v ∷ rows) h l =
@@ -69,7 +69,7 @@ combination-unit f n (suc i) (v ∷ rows) h l =
     ∙ combination-unit f n i rows hs (omega arith)
 
 -- column k of the rows, at the i-th lead
-column_at_lead : (f : Field) (n i : ℕ) (rows : List (List ℕ)) (ks : List ℕ) → AreReduced f n rows ks → i < length ks →
+pub column_at_lead : (f : Field) (n i : ℕ) (rows : List (List ℕ)) (ks : List ℕ) → AreReduced f n rows ks → i < length ks →
     map (λ v. get_or v (get_or ks i 0) 0) rows ≡ unit (length rows) i
 column_at_lead f n i rows ks h l =
     let c = count_leads n 0 rows ks h.leads_are in

@@ -7,3 +7,5 @@ pub mod DimensionLemmas
 pub mod NullLemmas
 pub mod FreeLemmas
 pub mod ShareLemmas
+pub mod GrowthLemmas
+pub mod ColumnLemmas

@@ -4,3 +4,5 @@ pub mod EchelonView
 pub mod Outside
 pub mod Orthogonal
 pub mod Projections
+pub mod Columns
+pub mod KeptRows

@@ -1,9 +1,9 @@
 //! The row space of a matrix, by its reduced echelon rows.
 
-ghost use Rattle.std.specs.Prelude.{◌≡◌, ◌<◌, ◌∷◌, ℕ, length, slice_index_or, IfOk, MatchOption, IsTrue, ◌↔◌};
+ghost use Rattle.std.specs.Prelude.{◌≡◌, ◌<◌, ◌∷◌, [], ℕ, length, slice_index_or, IfOk, MatchOption, IsTrue, ◌↔◌};
 ghost use Rattle.mm_field.specs.Vectors.{IsVector, InSpan, IsWithin};
 ghost use Rattle.mm_linear.specs.ReducedEchelon.{reduced_basis};
-ghost use Rattle.mm_matrix.specs.MatrixValue.{HasRowSpace};
+ghost use Rattle.mm_matrix.specs.MatrixValue.{HasRowSpace, reduced};
 ghost use Rattle.mm_matrix.specs.Outside.{IsFirstOutside};
 ghost use Rattle.mm_matrix.specs.Orthogonal.{IsNullOf};
 ghost use Rattle.mm_matrix.specs.Residues.{AreReduced, IsResidueBy};
@@ -41,7 +41,7 @@ impl Model for Echelon {
 impl Echelon {
     /// The reduced echelon rows of the row space of `m`.
     pub fn of(alloc: Global, m: &Matrix) -> Result<Echelon, NoMemory>
-        ensures rows { IfOk result (λ e. e ≡ record { f = m.now.f; cols = m.now.cols; rows = reduced_basis m.now.f m.now.cols m.now.rows }) }
+        ensures rows { IfOk result (λ e. e ≡ reduced m.now) }
         ensures span { IfOk result (λ e. HasRowSpace m.now e) }
     {
         let mut kept = Echelon {
@@ -98,6 +98,15 @@ impl Echelon {
         &self.leads
     }
 
+    /// Row `i`, counted from 0.
+    pub fn row(&self, i: usize) -> &[u8]
+        requires { i < length self.now.rows }
+        ensures value { result.now ≡ slice_index_or self.now.rows i [] }
+        ensures vector { IsVector self.now.f self.now.cols result.now }
+    {
+        &self.rows[i]
+    }
+
     /// The residue of `row`: the row plus a combination of the rows of the space, with 0 in each pivot column.
     pub fn residue(&self, alloc: Global, row: &[u8]) -> Result<Vec<u8>, NoMemory>
         requires { IsVector self.now.f self.now.cols row.now }
@@ -131,8 +140,8 @@ impl Echelon {
         Ok(None)
     }
 
-    /// The projections of the unit vectors at the columns that are no leads.
-    pub(crate) fn kernel_vectors(&self, alloc: Global) -> Result<Matrix, NoMemory>
+    /// A basis of the vectors that are orthogonal to the rows: the projections of the unit vectors at the columns that are no leads.
+    pub fn kernel_vectors(&self, alloc: Global) -> Result<Matrix, NoMemory>
         ensures { IfOk result (λ null. IsNullOf self.now null) }
     {
         let mut null = Matrix::new(alloc, self.field, self.cols);
@@ -143,7 +152,7 @@ impl Echelon {
     }
 
     /// The reduced echelon rows as a matrix.
-    pub(crate) fn into_matrix(self) -> Matrix
+    pub fn into_matrix(self) -> Matrix
         ensures { result ≡ self }
     {
         let Echelon {

@@ -6,6 +6,7 @@ ghost use Rattle.mm_field.specs.Digits.{inverse};
 ghost use Rattle.mm_field.specs.Vectors.{IsVector, AreVectors, InSpan, SameRowSpace, multiple};
 ghost use Rattle.mm_linear.specs.Eliminate.{cleared};
 ghost use Rattle.mm_linear.specs.ReducedEchelon.{Leads};
+ghost use Rattle.mm_matrix.specs.KeptRows.{digits};
 ghost use Rattle.mm_matrix.specs.Residues.{AreReduced, IsResidue, IsNew, AddsAs, IsPlaceOf};
 
 use mm_base::NoMemory;
@@ -15,9 +16,9 @@ use std::alloc::Global;
 /// Takes from `v` its part along the rows.
 fn reduce(f: Field, rows: &Vec<Vec<u8>>, leads: &Vec<usize>, v: &mut [u8])
     requires vector { IsVector f (length v.old) v.old }
-    requires each { AreVectors f (length v.old) (map (λ r. r.items) rows.now.items) }
-    requires leads { Leads (length v.old) 0 (map (λ r. r.items) rows.now.items) leads.now.items }
-    ensures { IsResidue f (length v.old) (map (λ r. r.items) rows.now.items) leads.now.items v.old v.new }
+    requires each { AreVectors f (length v.old) (digits rows.now.items) }
+    requires leads { Leads (length v.old) 0 (digits rows.now.items) leads.now.items }
+    ensures { IsResidue f (length v.old) (digits rows.now.items) leads.now.items v.old v.new }
 {
     for i in 0..rows.len() {
         clear_row(f, leads[i], &rows[i], v);
@@ -33,9 +34,9 @@ pub fn residue(
     row: &[u8],
 ) -> Result<Vec<u8>, NoMemory>
     requires vector { IsVector f (length row.now) row.now }
-    requires each { AreVectors f (length row.now) (map (λ r. r.items) rows.now.items) }
-    requires leads { Leads (length row.now) 0 (map (λ r. r.items) rows.now.items) leads.now.items }
-    ensures { IfOk result (λ rest. IsResidue f (length row.now) (map (λ r. r.items) rows.now.items) leads.now.items row.now rest.items) }
+    requires each { AreVectors f (length row.now) (digits rows.now.items) }
+    requires leads { Leads (length row.now) 0 (digits rows.now.items) leads.now.items }
+    ensures { IfOk result (λ rest. IsResidue f (length row.now) (digits rows.now.items) leads.now.items row.now rest.items) }
 {
     let mut rest = row.to_vec(alloc)?;
     reduce(f, rows, leads, &mut rest);
@@ -69,10 +70,10 @@ pub fn new_row(
     row: &[u8],
 ) -> Result<Option<NewRow>, NoMemory>
     requires vector { IsVector f (length row.now) row.now }
-    requires reduced { AreReduced f (length row.now) (map (λ r. r.items) rows.now.items) leads.now.items }
+    requires reduced { AreReduced f (length row.now) (digits rows.now.items) leads.now.items }
     ensures { IfOk result (λ new. MatchOption new
-        (InSpan f (length row.now) (map (λ r. r.items) rows.now.items) row.now)
-        (λ w. AddsAs f (length row.now) w.lead w.digits.items (map (λ r. r.items) rows.now.items) leads.now.items row.now)) }
+        (InSpan f (length row.now) (digits rows.now.items) row.now)
+        (λ w. AddsAs f (length row.now) w.lead w.digits.items (digits rows.now.items) leads.now.items row.now)) }
 {
     let mut rest = residue(alloc, f, rows, leads, row)?;
     let Some(lead) = lanes::first_nonzero(&rest) else {
@@ -97,9 +98,10 @@ fn clear_row(f: Field, lead: usize, w: &[u8], row: &mut [u8])
 fn clear_first(f: Field, lead: usize, w: &[u8], rows: &mut Vec<Vec<u8>>, count: usize)
     requires place { lead < length w.now }
     requires vector { IsVector f (length w.now) w.now }
-    requires each { AreVectors f (length w.now) (map (λ r. r.items) rows.old.items) }
+    requires each { AreVectors f (length w.now) (digits rows.old.items) }
     requires count { count ≤ length rows.old.items }
-    ensures { map (λ r. r.items) rows.new.items ≡ map (cleared f lead w.now) (take count (map (λ r. r.items) rows.old.items)) ++ drop count (map (λ r. r.items) rows.old.items) }
+    ensures { digits rows.new.items ≡ map (cleared f lead w.now) (take count (digits rows.old.items))
+        ++ drop count (digits rows.old.items) }
 {
     for i in 0..count {
         clear_row(f, lead, w, &mut rows[i]);
@@ -126,10 +128,11 @@ pub fn insert(
     leads: &mut Vec<usize>,
     new: NewRow,
 ) -> Result<(), NoMemory>
-    requires reduced { AreReduced f (length new.digits.items) (map (λ r. r.items) rows.old.items) leads.old.items }
+    requires reduced { AreReduced f (length new.digits.items) (digits rows.old.items) leads.old.items }
     requires new { IsNew f (length new.digits.items) new.lead new.digits.items leads.old.items }
-    ensures reduced { OnOk result (AreReduced f (length new.digits.items) (map (λ r. r.items) rows.new.items) leads.new.items) }
-    ensures span { OnOk result (SameRowSpace f (length new.digits.items) (new.digits.items ∷ map (λ r. r.items) rows.old.items) (map (λ r. r.items) rows.new.items)) }
+    ensures reduced { OnOk result (AreReduced f (length new.digits.items) (digits rows.new.items) leads.new.items) }
+    ensures span { OnOk result (SameRowSpace f (length new.digits.items)
+        (new.digits.items ∷ digits rows.old.items) (digits rows.new.items)) }
 {
     let place = place_of(new.lead, leads);
     clear_first(f, new.lead, &new.digits, rows, place);

@@ -5,6 +5,7 @@ mod echelon;
 mod elimination;
 mod matrix;
 mod orthogonality;
+mod products;
 
 pub use echelon::Echelon;
 pub use matrix::Matrix;

@@ -6,6 +6,7 @@ ghost use Rattle.mm_field.specs.Vectors.{AreDigits, vector_sum, multiple};
 ghost use Rattle.mm_linear.specs.Coordinates.{unit};
 ghost use Rattle.mm_matrix.specs.Orthogonal.{IsOrthogonalBasis};
 ghost use Rattle.mm_matrix.specs.Projections.{kernel_vector, kernel_vector_at, left};
+ghost use Rattle.mm_matrix.specs.KeptRows.{digits};
 ghost use Rattle.mm_matrix.specs.Residues.{AreReduced};
 
 use crate::echelon::Echelon;
@@ -37,10 +38,10 @@ fn add_share(f: Field, lead: usize, share: Elt, row: &mut [u8])
 
 /// Adds to a row, at the lead of each of the rows, the share that makes the unit vector at column `j` orthogonal to it.
 fn add_shares(f: Field, rows: &Vec<Vec<u8>>, leads: &Vec<usize>, j: usize, row: &mut [u8])
-    requires reduced { AreReduced f (length row.old) (map (λ r. r.items) rows.now.items) leads.now.items }
+    requires reduced { AreReduced f (length row.old) (digits rows.now.items) leads.now.items }
     requires column { j < length row.old }
     requires digits { AreDigits f row.old }
-    ensures { row.new ≡ vector_sum f row.old (left f (length row.old) (map (λ r. r.items) rows.now.items) leads.now.items j 0) }
+    ensures { row.new ≡ vector_sum f row.old (left f (length row.old) (digits rows.now.items) leads.now.items j 0) }
 {
     for i in 0..rows.len() {
         add_share(f, leads[i], f.neg(rows[i][j]), row);
@@ -56,9 +57,9 @@ fn kernel_vector(
     leads: &Vec<usize>,
     j: usize,
 ) -> Result<Vec<u8>, NoMemory>
-    requires reduced { AreReduced f cols (map (λ r. r.items) rows.now.items) leads.now.items }
+    requires reduced { AreReduced f cols (digits rows.now.items) leads.now.items }
     requires column { j < cols }
-    ensures { IfOk result (λ row. row.items ≡ kernel_vector f cols (map (λ r. r.items) rows.now.items) leads.now.items j) }
+    ensures { IfOk result (λ row. row.items ≡ kernel_vector f cols (digits rows.now.items) leads.now.items j) }
 {
     let mut row = vec![in alloc; 0; cols]?;
     row[j] = 1;
@@ -82,10 +83,12 @@ pub fn add_kernel_vector(
     j: usize,
     null: &mut Matrix,
 ) -> Result<(), NoMemory>
-    requires reduced { AreReduced f null.old.cols (map (λ r. r.items) rows.now.items) leads.now.items }
+    requires reduced { AreReduced f null.old.cols (digits rows.now.items) leads.now.items }
     requires field { null.old.f ≡ f }
     requires column { j < null.old.cols }
-    ensures { OnOk result (null.new ≡ record null.old { rows = null.old.rows ++ kernel_vector_at f null.old.cols (map (λ r. r.items) rows.now.items) leads.now.items j }) }
+    ensures { OnOk result (null.new ≡ record null.old {
+      rows = null.old.rows ++ kernel_vector_at f null.old.cols (digits rows.now.items) leads.now.items j;
+    }) }
 {
     if is_lead(leads, j) {
         return Ok(());
