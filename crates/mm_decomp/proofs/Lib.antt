@@ -1,0 +1,5 @@
+pub mod LeadLemmas
+pub mod MeetLemmas
+pub mod CutLemmas
+pub mod PairLemmas
+pub mod FormLemmas

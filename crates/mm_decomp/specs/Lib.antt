@@ -1,0 +1,5 @@
+pub mod Meets
+pub mod Shapes
+pub mod Spaces
+pub mod BuiltTree
+pub mod Building

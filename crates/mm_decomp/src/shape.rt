@@ -1,0 +1,29 @@
+//! Shapes: decompositions by their leaves and joins.
+
+use mm_base::Name;
+use std::marker::Model;
+
+/// A step of a shape.
+#[derive(Clone, Copy, Debug, PartialEq, Eq)]
+pub enum Step {
+    /// A leaf with its name and weight.
+    Leaf(Name, i64),
+    /// The join of the last two trees; the last one becomes the right child.
+    Join,
+}
+
+/// A binary tree over named elements with weights. Contracts see it as its steps: the leaves and joins in the order in which they
+/// were given.
+#[derive(Drop)]
+pub struct Shape {
+    pub(crate) steps: Vec<Step>,
+}
+
+impl Model for Shape {
+    ghost use Rattle.std.specs.Prelude.{List};
+    ghost use Rattle.mm_decomp.specs.declared.shape.Step.{Step};
+
+    ghost Value = { List Step };
+
+    ghost view = { λ s. s.steps.items };
+}
