@@ -3,3 +3,4 @@ pub mod MeetLemmas
 pub mod CutLemmas
 pub mod PairLemmas
 pub mod FormLemmas
+pub mod FrameLemmas
