@@ -8,14 +8,11 @@ use Rattle.mm_field.proofs.VectorLemmas.{vector_sum_comm, vector_sum_assoc, vect
 use Rattle.mm_field.proofs.CombinationLemmas.{combination-append, combination-multiple, IsVector-combination, InSpan-multiple}
 use Rattle.mm_field.proofs.PartLemmas.{IsVector-append, IsVector-take, IsVector-drop, append_parts}
 use Rattle.mm_matrix.specs.Orthogonal.{dot}
+use Rattle.mm_decomp.specs.Forms.{gathered}
 use Rattle.mm_matrix.proofs.DotLemmas.{dot_below}
 use Rattle.std.proofs.lemmas.List.Elements.{All-nil, All-cons}
 use Rattle.mm_field.specs.Digits.{order}
 use Rattle.mm_field.specs.Vectors.{AreDigits}
-
--- the sum of (h·a) m
-abbrev pub gathered : Field → ℕ → (hs ms : List (List ℕ)) → List ℕ → List ℕ
-gathered f g hs ms a = combination f g (map (dot f a) hs) ms
 
 -- coefficients of columns below and of columns outside that are the products with one vector
 pub record Solution (f : Field) (k : ℕ) (hs ho : List (List ℕ)) (x o : List ℕ) : Type 0 where

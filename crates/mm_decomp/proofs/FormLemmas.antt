@@ -22,17 +22,12 @@ use Rattle.mm_matrix.proofs.FreeLemmas.{combination-unit, range_inside}
 use Rattle.mm_matrix.proofs.NullLemmas.{leads_inside, AreVectors-units}
 use Rattle.mm_decomp.specs.Meets.{meet}
 use Rattle.mm_decomp.proofs.LeadLemmas.{digits_at, combination_of_columns, AreVectors-columns, map_dots_of_units}
-use Rattle.mm_decomp.proofs.CutLemmas.{gathered, dots_below, Solution, IsCut, IsValue, space_is_form}
-use Rattle.mm_decomp.proofs.PairLemmas.{sums, gathered-first_reduced}
+use Rattle.mm_decomp.specs.Forms.{gathered, sums, all_columns, products}
+use Rattle.mm_decomp.proofs.CutLemmas.{dots_below, Solution, IsCut, IsValue, space_is_form}
+use Rattle.mm_decomp.proofs.PairLemmas.{gathered-first_reduced}
 use Rattle.mm_decomp.proofs.MeetLemmas.{meet_of_rows}
 
 -- ---- rows whose combinations are the gathered sums
-
-abbrev pub all_columns : ℕ → List (List ℕ) → List (List ℕ)
-all_columns n rows = map (column rows) (range_with_len 0 n)
-
-abbrev pub products : Field → ℕ → ℕ → (hs ms : List (List ℕ)) → List (List ℕ)
-products f k g hs ms = map (times_matrix f g ms) (all_columns k hs)
 
 pub digits_at_all : (n : ℕ) (v : List ℕ) → length v ≡ n → digits_at (range_with_len 0 n) v ≡ v
 digits_at_all n v e =

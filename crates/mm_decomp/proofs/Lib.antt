@@ -4,3 +4,4 @@ pub mod CutLemmas
 pub mod PairLemmas
 pub mod FormLemmas
 pub mod FrameLemmas
+pub mod JoinFormLemmas

@@ -12,12 +12,8 @@ use Rattle.mm_matrix.specs.Residues.{AreReduced}
 use Rattle.mm_matrix.proofs.ColumnLemmas.{digit_of_combination}
 use Rattle.mm_matrix.proofs.DotLemmas.{dot-comm, dot-combination, dot_below}
 use Rattle.mm_matrix.proofs.NullLemmas.{leads_inside}
-use Rattle.mm_decomp.proofs.CutLemmas.{gathered}
+use Rattle.mm_decomp.specs.Forms.{gathered, sums}
 use Rattle.mm_decomp.proofs.LeadLemmas.{digits_at, combination_by_leads, combination_of_columns, AreVectors-columns}
-
--- what takes the place of the second list where reduced rows, with these leads, take the place of the first
-abbrev pub sums : Field → ℕ → List ℕ → (first second : List (List ℕ)) → List (List ℕ)
-sums f n ks first second = map (times_matrix f n second) (map (column first) ks)
 
 dots_by_leads : (f : Field) (n : ℕ) (rows : List (List ℕ)) (ks : List ℕ) (a : List ℕ) → AreReduced f n rows ks → (vs : List (List ℕ)) →
     IsWithin f n vs rows → map (λ v. dot f (map (dot f a) rows) (digits_at ks v)) vs ≡ map (dot f a) vs

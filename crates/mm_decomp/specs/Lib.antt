@@ -3,3 +3,4 @@ pub mod Shapes
 pub mod Spaces
 pub mod BuiltTree
 pub mod Building
+pub mod Forms

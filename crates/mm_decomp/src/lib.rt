@@ -6,6 +6,7 @@
 #![tactic(auto)]
 
 mod build;
+mod form;
 mod shape;
 
 pub use build::DecompFault;
