@@ -308,7 +308,7 @@ picked_is_extended f g all rows ks h red dep =
     })
 
 -- independent vectors at the front are all kept
-extended_front : (f : Field) (g : ℕ) (base front rest : List (List ℕ)) → AreVectors f g base → AreVectors f g front →
+pub extended_front : (f : Field) (g : ℕ) (base front rest : List (List ℕ)) → AreVectors f g base → AreVectors f g front →
     AreIndependent f g (base ++ front) → extended f g base (front ++ rest) ≡ extended f g (base ++ front) rest
 extended_front f g base [] rest hb hf ind = ap (λ (b : List (List ℕ)). extended f g b rest) (sym (append-nil base))
 extended_front f g base (v ∷ front) rest hb hf ind =

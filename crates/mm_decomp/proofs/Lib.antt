@@ -5,3 +5,5 @@ pub mod PairLemmas
 pub mod FormLemmas
 pub mod FrameLemmas
 pub mod JoinFormLemmas
+pub mod OperatorLemmas
+pub mod FirstDigitLemmas

@@ -2,15 +2,17 @@
 --
 -- The dependencies of all columns are combinations of a basis. A vector a of coefficients gives each element a digit, the product of
 -- a with the element's vector h, and the sum of these digits times the columns m below a node is a vector of the node's space.
-use Rattle.std.specs.Prelude.{ℕ, ◌≡◌, List, [], ◌∷◌, ◌++◌, map, length}
+use Rattle.std.specs.Prelude.{ℕ, ◌≡◌, ◌≤◌, List, [], ◌∷◌, ◌++◌, map, length}
 use Rattle.std.specs.List.{range_with_len}
 use Rattle.mm_field.specs.declared.Field.{Field}
 use Rattle.mm_field.specs.Vectors.{combination, times_matrix, IsVector, AreVectors, IsWithin}
-use Rattle.mm_linear.specs.ReducedEchelon.{reduced_basis}
+use Rattle.mm_linear.specs.Coordinates.{coordinates}
+use Rattle.mm_linear.specs.ReducedEchelon.{reduced_basis, IsReducedBasis}
 use Rattle.mm_matrix.specs.Columns.{column}
 use Rattle.mm_matrix.specs.MatrixValue.{MatrixValue, reduced}
 use Rattle.mm_matrix.specs.Orthogonal.{dot}
 use Rattle.mm_matrix.specs.Residues.{AreReduced}
+use Rattle.mm_decomp.specs.Meets.{extended}
 use Rattle.mm_decomp.specs.declared.form.Form.{Form}
 
 -- The sum of (h·a) m.
@@ -67,3 +69,20 @@ pub record IsJoinForm (f : Field) (k g : ℕ) (left right form : Form) : Type 0 
   pub keeps : (hl ml hr mr : List (List ℕ)) → IsFormOf f k g hl ml left → IsFormOf f k g hr mr right → IsFormOf f k g (hl ++ hr) (ml ++ mr) form
   pub space : (hl ml hr mr : List (List ℕ)) → IsFormOf f k g hl ml left → IsFormOf f k g hr mr right
       → form.basis.rows ≡ reduced_basis f g (products f k g (hl ++ hr) (ml ++ mr))
+
+-- The coordinates of rows in those of them that are no combinations of the rows before, which span them.
+pub record AreCoordinates (all found : MatrixValue) : Type 0 where
+  pub each : AreVectors all.f all.cols all.rows
+  pub within : IsWithin all.f all.cols all.rows (extended all.f all.cols [] all.rows)
+  pub found_is : found ≡ record {
+    f = all.f;
+    cols = length (extended all.f all.cols [] all.rows);
+    rows = map (coordinates all.f all.cols (extended all.f all.cols [] all.rows)) all.rows;
+  }
+
+-- The bases of three spaces of vectors of g digits, each of dimension at most 6.
+pub record AreBases (f : Field) (g : ℕ) (basis first second : MatrixValue) : Type 0 where
+  pub matrices : (basis ≡ record { f = f; cols = g; rows = basis.rows }) × (first ≡ record { f = f; cols = g; rows = first.rows })
+      × (second ≡ record { f = f; cols = g; rows = second.rows })
+  pub reduced : IsReducedBasis f g basis.rows × IsReducedBasis f g first.rows × IsReducedBasis f g second.rows
+  pub few : (length basis.rows ≤ 6) × (length first.rows ≤ 6) × (length second.rows ≤ 6)

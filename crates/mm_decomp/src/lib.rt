@@ -7,6 +7,7 @@
 
 mod build;
 mod form;
+mod operator;
 mod shape;
 
 pub use build::DecompFault;
