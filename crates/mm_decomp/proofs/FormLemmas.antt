@@ -8,7 +8,7 @@ use Rattle.mm_field.specs.Vectors.{zeros, vector_sum, combination, times_matrix,
 use Rattle.mm_field.proofs.VectorLemmas.{vector_sum-zeros, IsVector-zeros}
 use Rattle.mm_field.proofs.CombinationLemmas.{first_row, other_rows, combination-none, combination-times_matrix, IsVector-combination}
 use Rattle.mm_linear.specs.Coordinates.{unit}
-use Rattle.mm_linear.specs.ReducedEchelon.{reduced_basis}
+use Rattle.mm_linear.specs.ReducedEchelon.{reduced_basis, IsLeftBasis}
 use Rattle.mm_linear.proofs.BasisLemmas.{IsVector-unit}
 use Rattle.mm_linear.proofs.PivotLemmas.{count_leads}
 use Rattle.mm_linear.proofs.ReducedEchelonLemmas.{reduced_basis_is, reduced_basis-same}
@@ -22,7 +22,8 @@ use Rattle.mm_matrix.proofs.FreeLemmas.{combination-unit, range_inside}
 use Rattle.mm_matrix.proofs.NullLemmas.{leads_inside, AreVectors-units}
 use Rattle.mm_decomp.specs.Meets.{meet}
 use Rattle.mm_decomp.proofs.LeadLemmas.{digits_at, combination_of_columns, AreVectors-columns, map_dots_of_units}
-use Rattle.mm_decomp.specs.Forms.{gathered, sums, all_columns, products}
+use Rattle.mm_matrix.specs.MatrixValue.{MatrixValue}
+use Rattle.mm_decomp.specs.Forms.{gathered, sums, all_columns, products, IsBasisOfDependencies}
 use Rattle.mm_decomp.proofs.CutLemmas.{dots_below, Solution, IsCut, IsValue, space_is_form}
 use Rattle.mm_decomp.proofs.PairLemmas.{gathered-first_reduced}
 use Rattle.mm_decomp.proofs.MeetLemmas.{meet_of_rows}
@@ -170,61 +171,78 @@ orthogonal_from_zero f g ms x h e z = λ i d l.
     (get_or-map (column ms) (range_with_len 0 g) i 0 d (omega arith) ∙ ap (column ms) (get_or-range_with_len 0 g i 0 li ∙ zero-add i))
     ∙ sym (digit_of_combination f g i x ms h e li) ∙ ap (λ (v : List ℕ). get_or v i 0) z ∙ get_or-replicate g i 0 0 li
 
--- rows that span all vectors that are orthogonal to the rows of the columns cut the columns off from nothing
-pub cut_at_root : (f : Field) (g : ℕ) (ms null : List (List ℕ)) → AreVectors f g ms → AreVectors f (length ms) null →
+-- the products with a vector, and its combination of rows
+pub products_with_columns : (f : Field) (n m : ℕ) (null : List (List ℕ)) (a : List ℕ) → AreVectors f n null → length a ≡ length null → m ≡ n →
+    map (dot f a) (all_columns m null) ≡ combination f n a null
+products_with_columns f n m null a h e em =
+    let hs = all_columns m null in
+    let v = combination f n a null in
+    let lm = length-map hs (dot f a) in
+    let lh = length-all_columns m null in
+    let lr = length-range_with_len 0 m in
+    let lv = (IsVector-combination f n a null h).len in
+    ext_get_or 0 (map (dot f a) hs) v (omega arith) (λ i l.
+    let li : i < m = omega arith in
+    get_or-map (dot f a) hs i [] 0 (omega arith)
+    ∙ ap (dot f a) (get_or-map (column null) (range_with_len 0 m) i 0 [] (omega arith) ∙ ap (column null) (get_or-range_with_len 0 m i 0 li ∙ zero-add i))
+    ∙ dot-comm f a (column null i)
+    ∙ sym (digit_of_combination f n i a null h e (omega arith)))
+
+-- rows that span all vectors that are orthogonal to the rows of some columns tell their dependencies
+pub dependencies_of_null : (f : Field) (g : ℕ) (ms null : List (List ℕ)) (basis : MatrixValue) → AreVectors f g ms → AreVectors f (length ms) null →
     ((x : List ℕ) → IsVector f (length ms) x → InSpan f (length ms) null x ↔ IsOrthogonal f (reduced_basis f (length ms) (all_columns g ms)) x) →
-    IsCut f (length null) g (all_columns (length ms) null) ms [] []
-cut_at_root f g ms null hm hn exactly =
-    let n = length ms in
-    let k = length null in
-    let rows = all_columns g ms in
-    let hr : AreVectors f n rows = AreVectors-columns f g ms (range_with_len 0 g) hm (range_inside g) in
-    let b = reduced_basis_is f n rows hr in
-    let R = reduced_basis f n rows in
-    let hs = all_columns n null in
-    let products_are : (a : List ℕ) → length a ≡ k → map (dot f a) hs ≡ combination f n a null =
-    λ a e. go f n null a hn e n refl in
-    record {
+    basis ≡ record { f = f; cols = length null; rows = all_columns (length ms) null } →
+    IsBasisOfDependencies (record { f = f; cols = g; rows = ms }) basis
+dependencies_of_null f g ms null basis hm hn exactly e =
+    subst (λ b. IsBasisOfDependencies (record { f = f; cols = g; rows = ms }) b) (sym e) (record {
+      each = hm;
+      each_vector = AreVectors-columns f n null (range_with_len 0 n) hn (range_inside n);
+      field = refl;
       count = length-all_columns n null;
-      count_outside = refl;
       balanced = λ a ha.
           let x = combination f n a null in
           let hx = IsVector-combination f n a null hn in
           let inside : InSpan f n null x = record { coefficients = a; each = ha; sum = refl } in
           let o = orthogonal_within f n rows R x b.each b.span.0 ((exactly x hx).0 inside) in
-          let z : gathered f g hs ms a ≡ zeros g =
-          ap (λ (cs : List ℕ). combination f g cs ms) (products_are a ha.len) ∙ zero_from_orthogonal f g ms x hm hx.len o in
-          ap (λ u. vector_sum f u (zeros g)) z ∙ vector_sum-zeros f g (zeros g) (IsVector-zeros f g);
-      solved = λ x o hx ho z.
-          let none : combination f g o [] ≡ zeros g = combination-none f g o in
-          let zero : combination f g x ms ≡ zeros g =
-          sym (vector_sum-zeros f g (combination f g x ms) (IsVector-combination f g x ms hm))
-          ∙ ap (vector_sum f (combination f g x ms)) (sym none) ∙ z in
-          let orth = orthogonal_within f n R rows x hr b.span.1 (orthogonal_from_zero f g ms x hm hx.len zero) in
+          ap (λ (cs : List ℕ). combination f g cs ms) (products_with_columns f n n null a hn ha.len refl) ∙ zero_from_orthogonal f g ms x hm hx.len o;
+      solved = λ x hx none.
+          let orth = orthogonal_within f n R rows x hr b.span.1 (orthogonal_from_zero f g ms x hm hx.len none) in
           let p = (exactly x hx).1 orth in
           record {
             a = p.coefficients;
             vector = p.each;
-            below = products_are p.coefficients p.each.len ∙ p.sum;
-            outside = sym (empty o ho.len);
+            products = products_with_columns f n n null p.coefficients hn p.each.len refl ∙ p.sum;
           };
-    }
+    })
+  where
+    n : ℕ
+    n = length ms
+    rows : List (List ℕ)
+    rows = all_columns g ms
+    hr : AreVectors f n rows
+    hr = AreVectors-columns f g ms (range_with_len 0 g) hm (range_inside g)
+    R : List (List ℕ)
+    R = reduced_basis f n rows
+    b : IsLeftBasis f n rows R
+    b = reduced_basis_is f n rows hr
+
+-- nothing lies outside all columns
+pub cut_at_root : (columns basis : MatrixValue) → IsBasisOfDependencies columns basis →
+    IsCut columns.f basis.cols columns.cols basis.rows columns.rows [] []
+cut_at_root m b d = record {
+  count = d.count;
+  count_outside = refl;
+  balanced = λ a ha.
+      ap (λ u. vector_sum m.f u (zeros m.cols)) (d.balanced a ha) ∙ vector_sum-zeros m.f m.cols (zeros m.cols) (IsVector-zeros m.f m.cols);
+  solved = λ x o hx ho z.
+      let v = combination m.f m.cols x m.rows in
+      let none : v ≡ zeros m.cols =
+      sym (vector_sum-zeros m.f m.cols v (IsVector-combination m.f m.cols x m.rows d.each))
+      ∙ ap (vector_sum m.f v) (sym (combination-none m.f m.cols o)) ∙ z in
+      let s = d.solved x hx none in
+      record { a = s.a; vector = s.vector; below = s.products; outside = sym (empty o ho.len) };
+}
   where
     empty : (o : List ℕ) → length o ≡ 0 → o ≡ []
     empty [] e = refl
     empty (d ∷ o) e = absurd (omega arith)
-    go : (f : Field) (n : ℕ) (null : List (List ℕ)) (a : List ℕ) → AreVectors f n null → length a ≡ length null → (m : ℕ) → m ≡ n →
-        map (dot f a) (all_columns m null) ≡ combination f n a null
-    go f n null a h e m em =
-        let hs = all_columns m null in
-        let v = combination f n a null in
-        let lm = length-map hs (dot f a) in
-        let lh = length-all_columns m null in
-        let lr = length-range_with_len 0 m in
-        let lv = (IsVector-combination f n a null h).len in
-        ext_get_or 0 (map (dot f a) hs) v (omega arith) (λ i l.
-        let li : i < m = omega arith in
-        get_or-map (dot f a) hs i [] 0 (omega arith)
-        ∙ ap (dot f a) (get_or-map (column null) (range_with_len 0 m) i 0 [] (omega arith) ∙ ap (column null) (get_or-range_with_len 0 m i 0 li ∙ zero-add i))
-        ∙ dot-comm f a (column null i)
-        ∙ sym (digit_of_combination f n i a null h e (omega arith)))

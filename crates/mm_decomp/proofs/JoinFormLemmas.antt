@@ -4,7 +4,8 @@ use Rattle.std.proofs.lemmas.List.{length-map}
 use Rattle.std.proofs.lemmas.List.Elements.{All-nil, All-cons, All-append}
 use Rattle.mm_field.specs.declared.Field.{Field}
 use Rattle.mm_field.specs.Vectors.{vector_sum, times_matrix, IsVector, AreVectors}
-use Rattle.mm_linear.specs.ReducedEchelon.{reduced_basis}
+use Rattle.mm_linear.specs.ReducedEchelon.{reduced_basis, IsReducedBasis}
+use Rattle.mm_linear.proofs.ReducedEchelonLemmas.{reduced_basis-twice}
 use Rattle.mm_linear.proofs.PivotLemmas.{count_leads}
 use Rattle.mm_matrix.specs.Columns.{column}
 use Rattle.mm_matrix.specs.MatrixValue.{MatrixValue}
@@ -23,6 +24,11 @@ pub same_count : (f : Field) (n m : ℕ) (rows others : List (List ℕ)) (kept s
 same_count f n m rows others kept summed r =
     ap (λ (x : MatrixValue). length x.rows) r.summed_is ∙ length-sums f m r.leads rows others
     ∙ sym (count_leads n 0 (reduced_basis f n rows) r.leads r.are_reduced.leads_are) ∙ sym (ap (λ (x : MatrixValue). length x.rows) r.kept_is)
+
+kept_reduced : (f : Field) (n m : ℕ) (rows others : List (List ℕ)) (kept summed : MatrixValue) → ReducesBeside f n m rows others kept summed →
+    IsReducedBasis f n kept.rows
+kept_reduced f n m rows others kept summed r =
+    subst (λ (x : MatrixValue). IsReducedBasis f n x.rows) (sym r.kept_is) (reduced_basis-twice f n rows r.each)
 
 pub leaf_form : (f : Field) (k g : ℕ) (h m : List ℕ) (kept summed : MatrixValue) → ReducesBeside f g k (m ∷ []) (h ∷ []) kept summed →
     IsLeafForm f k g h m (record { functionals = summed; basis = kept })
@@ -43,6 +49,7 @@ leaf_form f k g h m kept summed r = record {
         ∙ gathered-second_reduced f k g (h ∷ []) (m ∷ []) (reduced_basis f g (m ∷ [])) r.leads a r.each_other r.each refl r.are_reduced r.within;
   };
   basis = ap (λ (x : MatrixValue). x.rows) r.kept_is;
+  reduced = kept_reduced f g k (m ∷ []) (h ∷ []) kept summed r;
 }
 
 -- the two steps of a join: first the functionals are reduced, then the vectors
@@ -75,6 +82,7 @@ join_form f k g left right form el n hr = record {
     basis_size = ap (λ (x : MatrixValue). x.cols) n.narrow.kept_is;
     count = same_count f g k n.summed.rows n.kept.rows form.basis form.functionals n.narrow;
   };
+  reduced = kept_reduced f g k n.summed.rows n.kept.rows form.basis form.functionals n.narrow;
   keeps = λ hl ml hr' mr p q. record {
     each = All-append (λ v. IsVector f k v) hl hr' p.each q.each;
     each_column = All-append (λ v. IsVector f g v) ml mr p.each_column q.each_column;

@@ -7,3 +7,5 @@ pub mod FrameLemmas
 pub mod JoinFormLemmas
 pub mod OperatorLemmas
 pub mod FirstDigitLemmas
+pub mod ShapeLemmas
+pub mod JoinNameLemmas

@@ -5,7 +5,7 @@
 use Rattle.std.specs.Prelude.{ℕ, ◌≡◌, ◌≤◌, List, [], ◌∷◌, ◌++◌, map, length}
 use Rattle.std.specs.List.{range_with_len}
 use Rattle.mm_field.specs.declared.Field.{Field}
-use Rattle.mm_field.specs.Vectors.{combination, times_matrix, IsVector, AreVectors, IsWithin}
+use Rattle.mm_field.specs.Vectors.{zeros, combination, times_matrix, IsVector, AreVectors, IsWithin}
 use Rattle.mm_linear.specs.Coordinates.{coordinates}
 use Rattle.mm_linear.specs.ReducedEchelon.{reduced_basis, IsReducedBasis}
 use Rattle.mm_matrix.specs.Columns.{column}
@@ -62,10 +62,12 @@ pub record IsLeafForm (f : Field) (k g : ℕ) (h m : List ℕ) (form : Form) : T
   pub sizes : HasSizes f k g form
   pub form_of : IsFormOf f k g (h ∷ []) (m ∷ []) form
   pub basis : form.basis.rows ≡ reduced_basis f g (m ∷ [])
+  pub reduced : IsReducedBasis f g form.basis.rows
 
 -- The form of a join, and its space.
 pub record IsJoinForm (f : Field) (k g : ℕ) (left right form : Form) : Type 0 where
   pub sizes : HasSizes f k g form
+  pub reduced : IsReducedBasis f g form.basis.rows
   pub keeps : (hl ml hr mr : List (List ℕ)) → IsFormOf f k g hl ml left → IsFormOf f k g hr mr right → IsFormOf f k g (hl ++ hr) (ml ++ mr) form
   pub space : (hl ml hr mr : List (List ℕ)) → IsFormOf f k g hl ml left → IsFormOf f k g hr mr right
       → form.basis.rows ≡ reduced_basis f g (products f k g (hl ++ hr) (ml ++ mr))
@@ -86,3 +88,21 @@ pub record AreBases (f : Field) (g : ℕ) (basis first second : MatrixValue) : T
       × (second ≡ record { f = f; cols = g; rows = second.rows })
   pub reduced : IsReducedBasis f g basis.rows × IsReducedBasis f g first.rows × IsReducedBasis f g second.rows
   pub few : (length basis.rows ≤ 6) × (length first.rows ≤ 6) × (length second.rows ≤ 6)
+
+-- the numbers x are the products of some vector with the given ones
+pub record IsProduct (f : Field) (k : ℕ) (hs : List (List ℕ)) (x : List ℕ) : Type 0 where
+  pub a : List ℕ
+  pub vector : IsVector f k a
+  pub products : map (dot f a) hs ≡ x
+
+-- For each of some columns a vector: coefficients combine the columns to zero exactly where they are the products of these vectors with
+-- one vector.
+pub record IsBasisOfDependencies (columns basis : MatrixValue) : Type 0 where
+  pub each : AreVectors columns.f columns.cols columns.rows
+  pub each_vector : AreVectors columns.f basis.cols basis.rows
+  pub field : basis.f ≡ columns.f
+  pub count : length basis.rows ≡ length columns.rows
+  pub balanced : (a : List ℕ) → IsVector columns.f basis.cols a
+      → gathered columns.f columns.cols basis.rows columns.rows a ≡ zeros columns.cols
+  pub solved : (x : List ℕ) → IsVector columns.f (length columns.rows) x → combination columns.f columns.cols x columns.rows ≡ zeros columns.cols
+      → IsProduct columns.f basis.cols basis.rows x

@@ -4,3 +4,5 @@ pub mod Spaces
 pub mod BuiltTree
 pub mod Building
 pub mod Forms
+pub mod Stack
+pub mod Steps

@@ -15,9 +15,13 @@ pub record Given : Type 0 where
   pub names : List (List ℕ)
   pub rows : List (List ℕ)
 
+-- The place of a name among some names, from 0.
+abbrev pub place_in : List (List ℕ) → List ℕ → ℕ
+place_in names name = position_or_len (bytes_eq name) names
+
 -- The column of a name: its digits in the given rows, from the top.
 abbrev pub column_of : Given → List ℕ → List ℕ
-column_of given name = column given.rows (position_or_len (bytes_eq name) given.names)
+column_of given name = column given.rows (place_in given.names name)
 
 -- The boundary space of a node, by its reduced echelon basis: what the span of the columns below it has in common with the span of
 -- the columns of all names outside it; at a leaf the span of its column.

@@ -6,6 +6,7 @@
 #![tactic(auto)]
 
 mod build;
+mod columns;
 mod form;
 mod operator;
 mod shape;

@@ -3,6 +3,9 @@
 use mm_base::Name;
 use std::marker::Model;
 
+/// The most leaves of a shape.
+const MAX_LEAVES: usize = 4096;
+
 /// A step of a shape.
 #[derive(Clone, Copy, Debug, PartialEq, Eq)]
 pub enum Step {
@@ -25,5 +28,9 @@ impl Model for Shape {
 
     ghost Value = { List Step };
 
+    ghost use Rattle.mm_decomp.specs.Shapes.{IsShape};
+
     ghost view = { λ s. s.steps.items };
+
+    ghost invariant = { λ s. IsShape s.steps.items };
 }
