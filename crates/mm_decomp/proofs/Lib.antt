@@ -9,3 +9,5 @@ pub mod OperatorLemmas
 pub mod FirstDigitLemmas
 pub mod ShapeLemmas
 pub mod JoinNameLemmas
+pub mod RankLemmas
+pub mod BuildLemmas

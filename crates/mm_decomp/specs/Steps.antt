@@ -1,21 +1,22 @@
 -- What each step does to a tree while it is built: between the code and the definitions.
-use Rattle.std.specs.Prelude.{ℕ, ◌+◌, ◌<◌, ◌≡◌, ◌≤◌, ℤ, List, [], ◌∷◌, length, reverse, slice_index_or, All, Ok, Err}
+use Rattle.std.specs.Prelude.{ℕ, ◌+◌, ◌-◌, ◌<◌, ◌≡◌, ◌≤◌, ℤ, List, [], ◌∷◌, ◌++◌, length, reverse, take, slice_index_or, All, Ok, Err}
 use Rattle.std.specs.declared.result.Result.{Result}
 use Rattle.mm_base.specs.declared.failure.NoMemory.{NoMemory}
-use Rattle.mm_field.specs.Vectors.{AreVectors}
+use Rattle.mm_field.specs.declared.Field.{Field}
 use Rattle.mm_linear.specs.ReducedEchelon.{IsReducedBasis}
 use Rattle.mm_matrix.specs.MatrixValue.{MatrixValue}
 use Rattle.mm_ops.specs.OpValue.{OpValue}
-use Rattle.mm_tree.specs.Building.{AreOver}
-use Rattle.mm_decomp.specs.BuiltTree.{built_operator}
+use Rattle.mm_tree.specs.Building.{AreOver, joined}
+use Rattle.mm_decomp.specs.BuiltTree.{built_operator, join_name}
 use Rattle.mm_decomp.specs.Forms.{HasSizes, IsJoinForm}
-use Rattle.mm_decomp.specs.Shapes.{Shape}
+use Rattle.mm_decomp.specs.Shapes.{Shape, after_steps, leaf_names}
 use Rattle.mm_decomp.specs.Shapes.Shape.{Leaf, Join}
 use Rattle.mm_decomp.specs.Stack.{LeafColumns, AreFormsOf, boundaries_in, found_space, joins_in, leaves_in, made_trees}
 use Rattle.mm_decomp.specs.declared.build.Building.{Building}
 use Rattle.mm_decomp.specs.declared.build.DecompFault.{DecompFault}
 use Rattle.mm_decomp.specs.declared.build.DecompFault.TheVariants as faults
 use Rattle.mm_decomp.specs.declared.build.Joined.{Joined}
+use Rattle.mm_decomp.specs.declared.shape.Step.{Step}
 use Rattle.mm_decomp.specs.declared.form.Form.{Form}
 
 -- What the leaves' vectors and columns are.
@@ -66,6 +67,19 @@ Joins left right step (Ok joined) = IsJoined left right joined
 Joins left right step (Err (faults.Width wide)) = (wide ≡ step) × IsWide left right
 Joins left right step (Err faults.NoMemory) = Unit {0}
 
+-- The forms are over this field.
+abbrev pub AreOf : Field → List Form → Type 0
+AreOf f forms = All (λ form. form.basis.f ≡ f) forms
+
+-- A join is put in the place of the last two trees and forms, with a name by its number.
+pub record PutsJoin (old new : Building) (made : Joined) : Type 0 where
+  pub field : new.field ≡ old.field
+  pub builder : new.builder ≡ record old.builder { trees = joined (join_name (old.joins + 1)) made.op old.builder.trees }
+  pub over : AreOver old.builder.f new.ops
+  pub forms : new.forms.items ≡ take (length old.forms.items - 2) old.forms.items ++ made.form ∷ []
+  pub leaves : new.leaves ≡ old.leaves
+  pub joins : new.joins ≡ old.joins + 1
+
 -- A leaf is added with its vector and its column.
 abbrev pub AddsLeaf : (old new : Building) → (functional column name : List ℕ) → ℤ → Type 0
 AddsLeaf old new functional column name weight =
@@ -82,3 +96,30 @@ JoinsLast old new step (Err (faults.Width wide)) =
     (wide ≡ step) × ((c : LeafColumns) (left right : Shape) (shapes : List Shape) → IsBuilding c (right ∷ left ∷ shapes) old
     → 6 < length (found_space c (leaves_in shapes) (Join left right)))
 JoinsLast old new step (Err faults.NoMemory) = Unit {0}
+
+-- Nothing was made yet.
+pub record IsNew (f : Field) (b : Building) : Type 0 where
+  pub field : b.field ≡ f
+  pub builder : (b.builder.f ≡ f) × (b.builder.trees ≡ [])
+  pub forms : b.forms.items ≡ []
+  pub ops : b.ops ≡ []
+  pub leaves : b.leaves ≡ 0
+  pub joins : b.joins ≡ 0
+
+-- There is a vector and a column for each leaf.
+pub record AreColumnsFor (functionals columns : MatrixValue) (steps : List Step) : Type 0 where
+  pub field : functionals.f ≡ columns.f
+  pub count : length functionals.rows ≡ length (leaf_names steps)
+  pub count_columns : length columns.rows ≡ length (leaf_names steps)
+
+-- The boundary of the last shape.
+abbrev pub last_boundary : LeafColumns → List Shape → ℕ
+last_boundary c [] = 0
+last_boundary c (shape ∷ shapes) = length (found_space c (leaves_in shapes) shape)
+
+-- After step i its node is made, or it is the first whose boundary is above 6.
+abbrev pub TakesStep : LeafColumns → List Step → ℕ → Building → Result (Unit {0}) DecompFault → Type 0
+TakesStep c steps i new (Ok u) = IsBuilding c (after_steps [] (take (i + 1) steps)) new
+TakesStep c steps i new (Err (faults.Width wide)) =
+    (wide ≡ i) × All (λ t. t ≤ 6) (boundaries_in c (after_steps [] (take i steps))) × (6 < last_boundary c (after_steps [] (take (i + 1) steps)))
+TakesStep c steps i new (Err faults.NoMemory) = Unit {0}

@@ -2,10 +2,12 @@
 
 ghost use Rattle.std.specs.Prelude.{◌≡◌, ◌≤◌, ◌<◌, ◌+◌, ◌^◌, [], ◌∷◌, length, nat_abs, reverse, take, IfOk, OnOk};
 ghost use Rattle.mm_field.specs.Vectors.{IsVector};
+ghost use Rattle.mm_tree.specs.Building.{AreOver};
 ghost use Rattle.mm_tree.specs.ValidTree.{most_weight};
 ghost use Rattle.mm_decomp.specs.Building.{AreLeaves, BuildsFrom, given_of, no_memory};
 ghost use Rattle.mm_decomp.specs.BuiltTree.{join_name};
-ghost use Rattle.mm_decomp.specs.Steps.{AddsLeaf, Fit, Joins, JoinsLast, LastFit};
+ghost use Rattle.mm_decomp.specs.Shapes.{AreSteps, after_steps};
+ghost use Rattle.mm_decomp.specs.Steps.{AddsLeaf, AreColumnsFor, AreOf, Fit, IsBuilding, IsNew, Joins, JoinsLast, LastFit, PutsJoin, TakesStep, leaf_columns_of};
 
 use crate::columns::{dependencies, leaf_columns};
 use crate::form::Form;
@@ -99,11 +101,116 @@ impl Building {
     {
         let form = Form::leaf(alloc, self.field, functional, column)?;
         let digit = first_digit(self.field, column);
-        if self.builder.elem(alloc, name, digit, weight).is_err() {
+        let Ok(()) = self.builder.elem(alloc, name, digit, weight) else {
             return Err(NoMemory);
-        }
+        };
         self.forms.push(form)?;
         self.leaves += 1;
         Ok(())
     }
+}
+
+impl Building {
+    /// Puts a join in the place of the last two shapes.
+    fn put_join(&mut self, alloc: Global, joined: Joined) -> Result<(), NoMemory>
+        requires two { 2 ≤ length self.old.forms.items }
+        requires over { AreOver self.old.builder.f self.old.ops }
+        requires field { joined.op.f ≡ self.old.builder.f }
+        requires few { self.old.joins < 4096 }
+        ensures { OnOk result (PutsJoin self.old self.new joined) }
+    {
+        let Joined { form, op } = joined;
+        let name = join_name(alloc, self.joins as u32 + 1)?;
+        let Ok(()) = self.ops.add(alloc, name, op) else {
+            return Err(NoMemory);
+        };
+        let Ok(()) = self.builder.join(alloc, &self.ops, &name) else {
+            return Err(NoMemory);
+        };
+        self.forms.truncate(self.forms.len() - 2);
+        self.forms.push(form)?;
+        self.joins += 1;
+        Ok(())
+    }
+
+    /// Joins the last two shapes. `step` is the number of the join.
+    fn join(&mut self, alloc: Global, step: u32) -> Result<(), DecompFault>
+        requires fit { LastFit (reverse self.old.forms.items) }
+        requires over { AreOver self.old.field self.old.ops }
+        requires field { self.old.builder.f ≡ self.old.field }
+        requires same { AreOf self.old.field (reverse self.old.forms.items) }
+        requires few { self.old.joins < 4096 }
+        ensures { JoinsLast self.old self.new step result }
+    {
+        let n = self.forms.len();
+        match join_forms(alloc, &self.forms[n - 2], &self.forms[n - 1], step) {
+            Ok(joined) => {
+                self.put_join(alloc, joined)?;
+                Ok(())
+            }
+            Err(fault) => Err(fault),
+        }
+    }
+}
+
+impl Building {
+    /// What is made of no steps.
+    fn new(alloc: Global, field: Field) -> Building
+        ensures { IsNew field result }
+    {
+        Building {
+            field,
+            builder: Builder::new(alloc, field),
+            forms: Vec::new(alloc),
+            ops: OpTable::new(alloc),
+            leaves: 0,
+            joins: 0,
+        }
+    }
+
+    /// Takes step `i` of the shape.
+    fn step(
+        &mut self,
+        alloc: Global,
+        functionals: &Matrix,
+        columns: &Matrix,
+        steps: &[Step],
+        i: usize,
+    ) -> Result<(), DecompFault>
+        requires place { i < length steps.now }
+        requires few { length steps.now < 2 ^ 32 }
+        requires shape { AreSteps steps.now }
+        requires columns { AreColumnsFor functionals.now columns.now steps.now }
+        requires so_far { IsBuilding (leaf_columns_of functionals.now columns.now) (after_steps [] (take i steps.now)) self.old }
+        ensures { TakesStep (leaf_columns_of functionals.now columns.now) steps.now i self.new result }
+    {
+        let _ = (functionals.rows(), columns.rows());
+        match steps[i] {
+            Step::Leaf(name, weight) => {
+                let p = self.leaves;
+                self.leaf(alloc, functionals.row(p), columns.row(p), name, weight)?;
+                Ok(())
+            }
+            Step::Join => self.join(alloc, i as u32),
+        }
+    }
+}
+
+/// The tree that is built for these rows and this decomposition. The first step whose node has a boundary above 6 is refused.
+pub fn build_tree(
+    alloc: Global,
+    names: &NameList,
+    rows: &Matrix,
+    shape: &Shape,
+) -> Result<Tree, DecompFault>
+    requires { AreLeaves names.now rows.now shape.now }
+    ensures { BuildsFrom (given_of names.now rows.now) shape.now result }
+{
+    let columns = leaf_columns(alloc, names, rows, &shape.steps)?;
+    let functionals = dependencies(alloc, &columns)?;
+    let mut building = Building::new(alloc, rows.field());
+    for i in 0..shape.steps.len() {
+        building.step(alloc, &functionals, &columns, &shape.steps, i)?;
+    }
+    Ok(building.builder.finish().unwrap())
 }

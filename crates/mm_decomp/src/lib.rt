@@ -11,5 +11,5 @@ mod form;
 mod operator;
 mod shape;
 
-pub use build::DecompFault;
+pub use build::{DecompFault, build_tree};
 pub use shape::{Shape, Step};
