@@ -50,7 +50,7 @@ first_digit_short (d ∷ ds) = go (d == 0) (first_digit_short ds)
 
 -- ---- parts
 
-part_of_leaf : (p : ℕ) (name : List ℕ) (weight : ℤ) (vectors : List (List ℕ)) → p < length vectors →
+pub part_of_leaf : (p : ℕ) (name : List ℕ) (weight : ℤ) (vectors : List (List ℕ)) → p < length vectors →
     part p (Leaf name weight) vectors ≡ get_or vectors p [] ∷ []
 unfolding leaves
 part_of_leaf p name weight vectors l = ap (take 1) (drop-cons vectors p [] l)
@@ -185,7 +185,7 @@ over_more f (entry ∷ entries) name op h e = (h.0, over_more f entries name op 
 
 -- ---- a join
 
-part_of_join : (p : ℕ) (left right : Shape) (vectors : List (List ℕ)) →
+pub part_of_join : (p : ℕ) (left right : Shape) (vectors : List (List ℕ)) →
     part p (Join left right) vectors ≡ part p left vectors ++ part (p + leaves left) right vectors
 unfolding leaves
 part_of_join p left right vectors =

@@ -11,3 +11,5 @@ pub mod ShapeLemmas
 pub mod JoinNameLemmas
 pub mod RankLemmas
 pub mod BuildLemmas
+pub mod StepLemmas
+pub mod EqualLemmas

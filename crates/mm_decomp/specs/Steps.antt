@@ -1,5 +1,6 @@
 -- What each step does to a tree while it is built: between the code and the definitions.
-use Rattle.std.specs.Prelude.{ℕ, ◌+◌, ◌-◌, ◌<◌, ◌≡◌, ◌≤◌, ℤ, List, [], ◌∷◌, ◌++◌, length, reverse, take, slice_index_or, All, Ok, Err}
+use Rattle.std.specs.Prelude.{ℕ, ◌+◌, ◌-◌, ◌<◌, ◌≡◌, ◌≤◌, ℤ, List, [], ◌∷◌, ◌++◌, length, reverse, take, slice_index_or, All, Ok, Err, Some, nat_lt}
+use Rattle.std.specs.List.{position}
 use Rattle.std.specs.declared.result.Result.{Result}
 use Rattle.mm_base.specs.declared.failure.NoMemory.{NoMemory}
 use Rattle.mm_field.specs.declared.Field.{Field}
@@ -7,11 +8,12 @@ use Rattle.mm_linear.specs.ReducedEchelon.{IsReducedBasis}
 use Rattle.mm_matrix.specs.MatrixValue.{MatrixValue}
 use Rattle.mm_ops.specs.OpValue.{OpValue}
 use Rattle.mm_tree.specs.Building.{AreOver, joined}
+use Rattle.mm_tree.specs.TreeValue.{TreeValue}
 use Rattle.mm_decomp.specs.BuiltTree.{built_operator, join_name}
 use Rattle.mm_decomp.specs.Forms.{HasSizes, IsJoinForm}
 use Rattle.mm_decomp.specs.Shapes.{Shape, after_steps, leaf_names}
 use Rattle.mm_decomp.specs.Shapes.Shape.{Leaf, Join}
-use Rattle.mm_decomp.specs.Stack.{LeafColumns, AreFormsOf, boundaries_in, found_space, joins_in, leaves_in, made_trees}
+use Rattle.mm_decomp.specs.Stack.{LeafColumns, AreFormsOf, boundaries_in, found_boundaries, found_space, joins_in, leaves_in, made_tree, made_trees}
 use Rattle.mm_decomp.specs.declared.build.Building.{Building}
 use Rattle.mm_decomp.specs.declared.build.DecompFault.{DecompFault}
 use Rattle.mm_decomp.specs.declared.build.DecompFault.TheVariants as faults
@@ -123,3 +125,12 @@ TakesStep c steps i new (Ok u) = IsBuilding c (after_steps [] (take (i + 1) step
 TakesStep c steps i new (Err (faults.Width wide)) =
     (wide ≡ i) × All (λ t. t ≤ 6) (boundaries_in c (after_steps [] (take i steps))) × (6 < last_boundary c (after_steps [] (take (i + 1) steps)))
 TakesStep c steps i new (Err faults.NoMemory) = Unit {0}
+
+-- The tree of a shape that begins at the first leaf, where all boundaries are at most 6, else the first step with a boundary above 6.
+abbrev pub Makes : LeafColumns → Shape → Result TreeValue DecompFault → Type 0
+Makes c shape (Ok made) = All (λ t. t ≤ 6) (found_boundaries c 0 shape) × (made ≡ record { f = c.f; tree = made_tree c 0 0 shape })
+Makes c shape (Err (faults.Width wide)) = position (λ t. nat_lt 6 t) (found_boundaries c 0 shape) ≡ Some wide
+Makes c shape (Err faults.NoMemory) = Unit {0}
+
+abbrev pub MakesTree : LeafColumns → List Step → Result TreeValue DecompFault → Type 0
+MakesTree c steps result = (shape : Shape) → after_steps [] steps ≡ shape ∷ [] → Makes c shape result

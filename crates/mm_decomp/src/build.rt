@@ -6,8 +6,8 @@ ghost use Rattle.mm_tree.specs.Building.{AreOver};
 ghost use Rattle.mm_tree.specs.ValidTree.{most_weight};
 ghost use Rattle.mm_decomp.specs.Building.{AreLeaves, BuildsFrom, given_of, no_memory};
 ghost use Rattle.mm_decomp.specs.BuiltTree.{join_name};
-ghost use Rattle.mm_decomp.specs.Shapes.{AreSteps, after_steps};
-ghost use Rattle.mm_decomp.specs.Steps.{AddsLeaf, AreColumnsFor, AreOf, Fit, IsBuilding, IsNew, Joins, JoinsLast, LastFit, PutsJoin, TakesStep, leaf_columns_of};
+ghost use Rattle.mm_decomp.specs.Shapes.{AreSteps, IsShape, after_steps};
+ghost use Rattle.mm_decomp.specs.Steps.{AddsLeaf, AreColumnsFor, AreOf, Fit, IsBuilding, IsNew, Joins, JoinsLast, LastFit, MakesTree, PutsJoin, TakesStep, leaf_columns_of};
 
 use crate::columns::{dependencies, leaf_columns};
 use crate::form::Form;
@@ -196,6 +196,28 @@ impl Building {
     }
 }
 
+/// The tree of the steps, from the vectors and columns of the leaves.
+fn build_from(
+    alloc: Global,
+    functionals: &Matrix,
+    columns: &Matrix,
+    steps: &[Step],
+) -> Result<Tree, DecompFault>
+    requires few { length steps.now < 2 ^ 32 }
+    requires shape { IsShape steps.now }
+    requires columns { AreColumnsFor functionals.now columns.now steps.now }
+    ensures { MakesTree (leaf_columns_of functionals.now columns.now) steps.now result }
+{
+    let mut building = Building::new(alloc, columns.field());
+    for i in 0..steps.len() {
+        match building.step(alloc, functionals, columns, steps, i) {
+            Ok(()) => {}
+            Err(fault) => return Err(fault),
+        }
+    }
+    Ok(building.builder.finish().unwrap())
+}
+
 /// The tree that is built for these rows and this decomposition. The first step whose node has a boundary above 6 is refused.
 pub fn build_tree(
     alloc: Global,
@@ -206,11 +228,8 @@ pub fn build_tree(
     requires { AreLeaves names.now rows.now shape.now }
     ensures { BuildsFrom (given_of names.now rows.now) shape.now result }
 {
-    let columns = leaf_columns(alloc, names, rows, &shape.steps)?;
+    let steps = shape.steps();
+    let columns = leaf_columns(alloc, names, rows, steps)?;
     let functionals = dependencies(alloc, &columns)?;
-    let mut building = Building::new(alloc, rows.field());
-    for i in 0..shape.steps.len() {
-        building.step(alloc, &functionals, &columns, &shape.steps, i)?;
-    }
-    Ok(building.builder.finish().unwrap())
+    build_from(alloc, &functionals, &columns, steps)
 }

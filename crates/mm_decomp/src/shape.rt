@@ -1,5 +1,8 @@
 //! Shapes: decompositions by their leaves and joins.
 
+ghost use Rattle.std.specs.Prelude.{◌≡◌};
+ghost use Rattle.mm_decomp.specs.Shapes.{IsShape};
+
 use mm_base::Name;
 use std::marker::Model;
 
@@ -19,7 +22,7 @@ pub enum Step {
 /// were given.
 #[derive(Drop)]
 pub struct Shape {
-    pub(crate) steps: Vec<Step>,
+    steps: Vec<Step>,
 }
 
 impl Model for Shape {
@@ -33,4 +36,14 @@ impl Model for Shape {
     ghost view = { λ s. s.steps.items };
 
     ghost invariant = { λ s. IsShape s.steps.items };
+}
+
+impl Shape {
+    /// The steps, in the order in which they were given.
+    pub fn steps(&self) -> &[Step]
+        ensures steps { result.now ≡ self.now }
+        ensures shape { IsShape self.now }
+    {
+        &self.steps
+    }
 }

@@ -65,6 +65,6 @@ pub returns-in-Err : goal.returns-in-Err
 returns-in-Err c =
     let v = c.args.self.now.forms in
     let w = ends_with v.items c.requires.fit in
-    fault_told c.args.self.now _ w c.index.result.now c.index-2.result.now c.args.step c.in-Err.fault
+    fault_told c.args.self.now c.args.self.now w c.index.result.now c.index-2.result.now c.args.step c.in-Err.fault
     (is_left v c.requires.fit c.len-n.result c.index.result.now c.len-n.ensures c.index.ensures)
     (is_right v c.requires.fit c.len-n.result c.index-2.result.now c.len-n.ensures c.index-2.ensures) c.in-Err.ensures
