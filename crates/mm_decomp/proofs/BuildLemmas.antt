@@ -1,5 +1,5 @@
 -- What each step adds to a tree while it is built.
-use Rattle.std.proofs.Common.{ℕ, ℤ, zero, suc, ◌+◌, ◌<◌, ◌≤◌, ◌≡◌, Bool, true, false, List, [], ◌∷◌, ◌++◌, length, map, take, drop, get_or, reverse, refl, sym, ap, ap₂, ◌∙◌, subst, arith, append_assoc, length-append, ◌-◌, ◌||◌, Option, Some, None}
+use Rattle.std.proofs.Common.{ℕ, ℤ, ◌+◌, ◌<◌, ◌≤◌, ◌≡◌, Bool, true, false, List, [], ◌∷◌, ◌++◌, length, take, drop, get_or, reverse, refl, sym, ap, ap₂, ◌∙◌, subst, arith, append_assoc, length-append, ◌-◌, ◌||◌, Option, Some, None}
 use Rattle.std.specs.List.{All}
 use Rattle.std.specs.Prelude.{if◌then◌else◌, ◌==◌}
 use Rattle.std.proofs.Math.Seq.{drop-cons, take-add, drop-drop}
@@ -13,8 +13,8 @@ use Rattle.mm_ops.specs.Tables.{refusal_of}
 use Rattle.std.proofs.lemmas.List.Elements.{All-nil, All-cons, All-append, All-head, All-tail}
 use Rattle.mm_field.specs.declared.Field.{Field}
 use Rattle.mm_field.specs.Digits.{order}
-use Rattle.mm_field.specs.Vectors.{AreDigits, IsVector, AreVectors}
-use Rattle.mm_linear.specs.ReducedEchelon.{reduced_basis, IsReducedBasis}
+use Rattle.mm_field.specs.Vectors.{AreDigits}
+use Rattle.mm_linear.specs.ReducedEchelon.{reduced_basis}
 use Rattle.mm_logic.specs.Operator.{Op}
 use Rattle.mm_ops.specs.OpValue.{OpValue}
 use Rattle.mm_ops.specs.Tables.{OperatorList, op_named, has_name}
@@ -22,7 +22,7 @@ use Rattle.mm_tree.specs.Building.{BuilderValue, AreOver, joined}
 use Rattle.mm_tree.specs.NamedTree as named
 use Rattle.mm_tree.specs.NamedTree.{Tree}
 use Rattle.mm_decomp.specs.BuiltTree.{first_digit, built_operator, join_name}
-use Rattle.mm_decomp.specs.Forms.{HasSizes, IsFormOf, IsLeafForm, IsJoinForm, products}
+use Rattle.mm_decomp.specs.Forms.{IsFormOf, IsLeafForm, IsJoinForm, products}
 use Rattle.mm_decomp.specs.Shapes.{Shape, joins}
 use Rattle.mm_decomp.specs.Shapes.Shape.{Leaf, Join}
 use Rattle.mm_decomp.specs.Stack.{LeafColumns, leaves, part, found_space, made_tree, found_boundaries, leaves_in, joins_in, made_trees, boundaries_in, IsFormAt, AreFormsOf}

@@ -1,18 +1,14 @@
 -- What is found is what is meant: spaces, boundaries and the tree.
-use Rattle.std.proofs.Common.{ℕ, ℤ, zero, suc, ◌+◌, ◌<◌, ◌≤◌, ◌≡◌, List, [], ◌∷◌, ◌++◌, length, map, take, drop, get_or, refl, sym, ap, ap₂, ◌∙◌, subst, arith, length-append, append_assoc, length-take-le, length-drop}
-use Rattle.std.proofs.Math.Seq.{drop-cons, take-add, drop-drop}
+use Rattle.std.proofs.Common.{ℕ, ℤ, ◌+◌, ◌≤◌, ◌≡◌, List, [], ◌∷◌, ◌++◌, length, map, take, drop, get_or, refl, sym, ap, ap₂, ◌∙◌, subst, arith, length-append, length-take-le, length-drop}
 use Rattle.std.proofs.lemmas.List.{length-map, map-append, take_at, drop_at}
 use Rattle.std.proofs.lemmas.List.Elements.{All-append, All-take, All-drop}
 use Rattle.mm_field.specs.declared.Field.{Field}
 use Rattle.mm_field.specs.Vectors.{IsVector, AreVectors}
-use Rattle.mm_field.proofs.PartLemmas.{append_parts}
 use Rattle.mm_linear.specs.ReducedEchelon.{reduced_basis}
 use Rattle.mm_logic.specs.Operator.{Op}
-use Rattle.mm_matrix.specs.MatrixValue.{MatrixValue}
 use Rattle.mm_tree.specs.NamedTree as named
 use Rattle.mm_tree.specs.NamedTree.{Tree}
 use Rattle.mm_decomp.specs.BuiltTree.{first_digit, built, built_operator, join_name}
-use Rattle.mm_decomp.specs.Forms.{products}
 use Rattle.mm_decomp.specs.Meets.{meet}
 use Rattle.mm_decomp.specs.Shapes.{Shape, names, joins}
 use Rattle.mm_decomp.specs.Shapes.Shape.{Leaf, Join}
@@ -156,7 +152,7 @@ equal_tree c given n p outside (Join left right) a h =
     let er = equal_space c given (p + leaves left) (outside ++ names left) right a both.right_placed in
     let ej = equal_space c given p outside (Join left right) a h in
     let op : built_operator c.f c.g (found_space c p (Join left right)) (found_space c p left) (found_space c (p + leaves left) right)
-        ≡ built_operator given.f (length given.rows) (space given outside (Join left right)) (space given (outside ++ names right) left) (space given (outside ++ names left) right) =
+    ≡ built_operator given.f (length given.rows) (space given outside (Join left right)) (space given (outside ++ names right) left) (space given (outside ++ names left) right) =
     ap₂ (λ (f : Field) (m : ℕ). built_operator f m (found_space c p (Join left right)) (found_space c p left) (found_space c (p + leaves left) right)) a.field a.size
     ∙ ap₂ (λ (x y : List (List ℕ)). built_operator given.f (length given.rows) x y (found_space c (p + leaves left) right)) ej el
     ∙ ap (built_operator given.f (length given.rows) (space given outside (Join left right)) (space given (outside ++ names right) left)) er in

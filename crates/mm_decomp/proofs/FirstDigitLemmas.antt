@@ -1,5 +1,5 @@
 -- The first digit of a column that is not 0.
-use Rattle.std.proofs.Common.{ℕ, zero, suc, ◌+◌, ◌<◌, ◌≤◌, ◌≡◌, ◌≢◌, Bool, true, false, ◌==◌, List, [], ◌∷◌, length, get_or, refl, sym, ap, ap₂, ◌∙◌, subst, arith, Option, Some, None}
+use Rattle.std.proofs.Common.{ℕ, zero, suc, ◌+◌, ◌<◌, ◌≡◌, ◌≢◌, Bool, true, false, ◌==◌, List, [], ◌∷◌, length, get_or, refl, ap, ◌∙◌, arith, Some}
 use Rattle.std.specs.Prelude.{if◌then◌else◌}
 use Rattle.std.proofs.lemmas.Bool.{eqb-true}
 use Rattle.std.proofs.lemmas.List.Elements.{All-nil, All-cons}
@@ -7,7 +7,6 @@ use Rattle.mm_field.specs.declared.Field.{Field}
 use Rattle.mm_field.specs.Digits.{order}
 use Rattle.mm_field.specs.Vectors.{zeros}
 use Rattle.mm_space.specs.DigitTexts.{vector_of}
-use Rattle.mm_space.specs.VectorText.{IsVectorText}
 use Rattle.mm_space.proofs.DigitTextLemmas.{vector_of_text}
 use Rattle.mm_decomp.specs.BuiltTree.{first_digit}
 

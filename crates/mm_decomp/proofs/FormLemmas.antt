@@ -1,6 +1,6 @@
 -- The boundary space of a join by the sum of products below it.
 use Rattle.std.proofs.Common.{ℕ, zero, suc, ◌<◌, ◌≡◌, ◌↔◌, List, [], ◌∷◌, length, map, get_or, refl, sym, ap, ap₂, ◌∙◌, subst, arith, ext_get_or, zero-add}
-use Rattle.std.specs.List.{range_with_len, All}
+use Rattle.std.specs.List.{range_with_len}
 use Rattle.std.proofs.lemmas.List.{length-map, get_or-map, length-replicate, get_or-replicate}
 use Rattle.std.proofs.lemmas.List.FromFn.{get_or-range_with_len, length-range_with_len}
 use Rattle.mm_field.specs.declared.Field.{Field}
@@ -16,7 +16,7 @@ use Rattle.mm_matrix.specs.Columns.{column}
 use Rattle.mm_matrix.specs.Orthogonal.{dot, IsOrthogonal}
 use Rattle.mm_matrix.specs.Residues.{AreReduced}
 use Rattle.mm_matrix.specs.Projections.{units}
-use Rattle.mm_matrix.proofs.ColumnLemmas.{digit_of_combination, IsVector-column}
+use Rattle.mm_matrix.proofs.ColumnLemmas.{digit_of_combination}
 use Rattle.mm_matrix.proofs.DotLemmas.{dot-comm, orthogonal_within}
 use Rattle.mm_matrix.proofs.FreeLemmas.{combination-unit, range_inside}
 use Rattle.mm_matrix.proofs.NullLemmas.{leads_inside, AreVectors-units}
@@ -24,7 +24,7 @@ use Rattle.mm_decomp.specs.Meets.{meet}
 use Rattle.mm_decomp.proofs.LeadLemmas.{digits_at, combination_of_columns, AreVectors-columns, map_dots_of_units}
 use Rattle.mm_matrix.specs.MatrixValue.{MatrixValue}
 use Rattle.mm_decomp.specs.Forms.{gathered, sums, all_columns, products, IsBasisOfDependencies}
-use Rattle.mm_decomp.proofs.CutLemmas.{dots_below, Solution, IsCut, IsValue, space_is_form}
+use Rattle.mm_decomp.proofs.CutLemmas.{dots_below, IsCut, space_is_form}
 use Rattle.mm_decomp.proofs.PairLemmas.{gathered-first_reduced}
 use Rattle.mm_decomp.proofs.MeetLemmas.{meet_of_rows}
 
@@ -217,12 +217,16 @@ dependencies_of_null f g ms null basis hm hn exactly e =
   where
     n : ℕ
     n = length ms
+
     rows : List (List ℕ)
     rows = all_columns g ms
+
     hr : AreVectors f n rows
     hr = AreVectors-columns f g ms (range_with_len 0 g) hm (range_inside g)
+
     R : List (List ℕ)
     R = reduced_basis f n rows
+
     b : IsLeftBasis f n rows R
     b = reduced_basis_is f n rows hr
 

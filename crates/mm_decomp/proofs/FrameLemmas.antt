@@ -10,7 +10,7 @@ use Rattle.std.proofs.lemmas.List.Elements.{All-nil, All-cons, All-append, All-h
 use Rattle.mm_field.specs.declared.Field.{Field}
 use Rattle.mm_field.specs.Digits.{order, plus, negative}
 use Rattle.mm_field.specs.Vectors.{zeros, vector_sum, multiple, combination, times_matrix, IsVector, AreVectors, InSpan, IsWithin, AreIndependent}
-use Rattle.mm_field.proofs.Tables.{negative-times, negative_below, plus-negative, plus_zero_digit, plus_comm, one_digit}
+use Rattle.mm_field.proofs.Tables.{negative-times, negative_below, plus-negative, plus_zero_digit, one_digit}
 use Rattle.mm_field.proofs.VectorLemmas.{vector_sum-zeros, opposite-vector_sum, IsVector-zeros, IsVector-multiple}
 use Rattle.mm_field.proofs.CombinationLemmas.{first_row, other_rows, combination-append, combination-multiple, combination-vector_sum, combination-zeros, combination-times_matrix, IsVector-combination, InSpan-within}
 use Rattle.mm_linear.specs.Coordinates.{unit, coordinates}
@@ -21,7 +21,6 @@ use Rattle.mm_linear.proofs.CoordinateLemmas.{IsVector-coordinates, coordinates_
 use Rattle.mm_linear.proofs.LeftUnique.{zero_at_leads}
 use Rattle.mm_linear.proofs.MeetTest.{is_in_span_decides}
 use Rattle.mm_linear.proofs.PivotLemmas.{count_leads, late_rows, entry_of_cut}
-use Rattle.mm_linear.proofs.SpaceLemmas.{false_true}
 use Rattle.mm_linear.proofs.SubspaceLemmas.{from_sum}
 use Rattle.mm_matrix.specs.Columns.{column}
 use Rattle.mm_matrix.specs.Orthogonal.{dot, IsOrthogonal}
@@ -29,7 +28,7 @@ use Rattle.mm_matrix.specs.Projections.{units, shares, projected}
 use Rattle.mm_matrix.specs.Residues.{AreReduced}
 use Rattle.mm_matrix.proofs.ColumnLemmas.{digit_of_combination, IsVector-column}
 use Rattle.mm_matrix.proofs.DotLemmas.{dot-comm, dot-unit, orthogonal_within}
-use Rattle.mm_matrix.proofs.FreeLemmas.{combination-unit, reduced_independent}
+use Rattle.mm_matrix.proofs.FreeLemmas.{combination-unit}
 use Rattle.mm_matrix.proofs.NullLemmas.{AreVectors-units, IsVector-projected, projected_orthogonal, leads_inside}
 use Rattle.mm_decomp.specs.Meets.{extended}
 use Rattle.mm_decomp.proofs.LeadLemmas.{map_dots_of_units, AreVectors-columns}
@@ -155,6 +154,7 @@ none_of_before f g base v vs hb hvs ind p =
   where
     first_of : (xs : List ℕ) (k : ℕ) → get_or xs (k - k) 0 ≡ get_or xs 0 0
     first_of xs k = ap (λ i. get_or xs i 0) (let e : k - k ≡ 0 = omega arith in e)
+
     nonzero : negative f 1 ≡ 0 → ⊥
     nonzero e =
         let one : 1 ≡ 0 = sym (plus_zero_digit f 1 (one_digit f)) ∙ ap (λ x. plus f 1 x) (sym e) ∙ plus-negative f 1 in
@@ -233,20 +233,28 @@ sieve f g all base from (suc n) (r ∷ rows) (k ∷ ks) h hb hr e leads hk ind s
   where
     l : from < length all
     l = omega arith
+
     v : List ℕ
     v = get_or all from []
+
     hv : IsVector f g v
     hv = h from [] l
+
     hs : All (λ k. k < length all) ks
     hs = All-tail (λ k. k < length all) k ks hk
+
     more : List (List ℕ)
     more = picked all ks
+
     hmore : AreVectors f g more
     hmore = AreVectors-picked f g all ks h hs
+
     one : AreVectors f g (v ∷ [])
     one = All-cons (λ v. IsVector f g v) v [] hv (All-nil (λ v. IsVector f g v))
+
     start : extended f g base (drop from all) ≡ extended f g base (v ∷ drop (suc from) all)
     start = ap (extended f g base) (drop-cons all from [] l)
+
     here : k ≡ from →
         ((b : List (List ℕ)) → AreVectors f g b → Leads (length all) (suc from) rows ks → AreIndependent f g (b ++ more) →
         ((j : ℕ) → suc from ≤ j → j < length all → IsShown f g b more (column rows j) (get_or all j [])) →
@@ -282,6 +290,7 @@ sieve f g all base from (suc n) (r ∷ rows) (k ∷ ks) h hb hr e leads hk ind s
               ∙ s.sum;
         })
         ∙ assoc ∙ ap (λ (vs : List (List ℕ)). base ++ vs) (sym at)
+
     later : k ≢ from →
         (Leads (length all) (suc from) (r ∷ rows) (k ∷ ks) → extended f g base (drop (suc from) all) ≡ base ++ picked all (k ∷ ks)) →
         extended f g base (drop from all) ≡ base ++ picked all (k ∷ ks)
@@ -356,19 +365,20 @@ dependencies_at_leads f g all span rows ls h red within hr there back = λ x hx.
     let D = map (column all) ls in
     let hD = AreVectors-columns f g all ls h hl in
     let v = combination f g x all in
-    let lD = length-map ls (column all) in
-    (λ z. orthogonal_within f m rows D x hD back (λ i d l.
-        let li : i < length ls = omega arith in
-        let k = get_or ls i 0 in
-        let lk : k < g = hl i 0 li in
-        ap (λ (u : List ℕ). dot f u x) (get_or-map (column all) ls i 0 d li)
-        ∙ sym (digit_of_combination f g k x all h hx.len lk) ∙ ap (λ (u : List ℕ). get_or u k 0) z ∙ get_or-replicate g k 0 0 lk),
-    λ o.
-        let od = orthogonal_within f m D rows x hr there o in
-        let inside : InSpan f g span v = InSpan-within f g all span v red.each within (record { coefficients = x; each = hx; sum = refl }) in
-        zero_at_leads f g 0 span ls red.leads_are red.each v inside (λ i d l.
-        let k = get_or ls i d in
-        let lk : k < g = hl i d l in
-        digit_of_combination f g k x all h hx.len lk
-        ∙ sym (ap (λ (u : List ℕ). dot f u x) (get_or-map (column all) ls i d [] l))
-        ∙ od i [] (omega arith)))
+    let lD = length-map ls (column all) in (
+      λ z. orthogonal_within f m rows D x hD back (λ i d l.
+          let li : i < length ls = omega arith in
+          let k = get_or ls i 0 in
+          let lk : k < g = hl i 0 li in
+          ap (λ (u : List ℕ). dot f u x) (get_or-map (column all) ls i 0 d li)
+          ∙ sym (digit_of_combination f g k x all h hx.len lk) ∙ ap (λ (u : List ℕ). get_or u k 0) z ∙ get_or-replicate g k 0 0 lk),
+      λ o.
+          let od = orthogonal_within f m D rows x hr there o in
+          let inside : InSpan f g span v = InSpan-within f g all span v red.each within (record { coefficients = x; each = hx; sum = refl }) in
+          zero_at_leads f g 0 span ls red.leads_are red.each v inside (λ i d l.
+          let k = get_or ls i d in
+          let lk : k < g = hl i d l in
+          digit_of_combination f g k x all h hx.len lk
+          ∙ sym (ap (λ (u : List ℕ). dot f u x) (get_or-map (column all) ls i d [] l))
+          ∙ od i [] (omega arith)),
+    )

@@ -1,7 +1,7 @@
 -- The forms of leaves and joins.
-use Rattle.std.proofs.Common.{ℕ, ◌+◌, ◌<◌, ◌≡◌, List, [], ◌∷◌, ◌++◌, length, map, refl, sym, ap, ap₂, ◌∙◌, subst, arith, length-append}
+use Rattle.std.proofs.Common.{ℕ, ◌+◌, ◌≡◌, List, [], ◌∷◌, ◌++◌, length, map, refl, sym, ap, ap₂, ◌∙◌, subst, length-append}
 use Rattle.std.proofs.lemmas.List.{length-map}
-use Rattle.std.proofs.lemmas.List.Elements.{All-nil, All-cons, All-append}
+use Rattle.std.proofs.lemmas.List.Elements.{All-append}
 use Rattle.mm_field.specs.declared.Field.{Field}
 use Rattle.mm_field.specs.Vectors.{vector_sum, times_matrix, IsVector, AreVectors}
 use Rattle.mm_linear.specs.ReducedEchelon.{reduced_basis, IsReducedBasis}
@@ -10,10 +10,10 @@ use Rattle.mm_linear.proofs.PivotLemmas.{count_leads}
 use Rattle.mm_matrix.specs.Columns.{column}
 use Rattle.mm_matrix.specs.MatrixValue.{MatrixValue}
 use Rattle.mm_decomp.specs.declared.form.Form.{Form}
-use Rattle.mm_decomp.specs.Forms.{gathered, sums, products, ReducesBeside, HasSizes, IsFormOf, IsLeafForm, IsJoinForm}
+use Rattle.mm_decomp.specs.Forms.{gathered, sums, ReducesBeside, IsFormOf, IsLeafForm, IsJoinForm}
 use Rattle.mm_decomp.proofs.CutLemmas.{gathered-append}
 use Rattle.mm_decomp.proofs.PairLemmas.{gathered-first_reduced, gathered-second_reduced}
-use Rattle.mm_decomp.proofs.FormLemmas.{basis_of_sums, AreVectors-images}
+use Rattle.mm_decomp.proofs.FormLemmas.{basis_of_sums}
 
 pub length-sums : (f : Field) (n : ℕ) (ks : List ℕ) (first second : List (List ℕ)) → length (sums f n ks first second) ≡ length ks
 length-sums f n ks first second = length-map (map (column first) ks) (times_matrix f n second) ∙ length-map ks (column first)
@@ -99,8 +99,10 @@ join_form f k g left right form el n hr = record {
   where
     ys : List (List ℕ)
     ys = left.functionals.rows ++ right.functionals.rows
+
     zs : List (List ℕ)
     zs = left.basis.rows ++ right.basis.rows
+
     both : (hl ml hr' mr : List (List ℕ)) → IsFormOf f k g hl ml left → IsFormOf f k g hr' mr right → (a : List ℕ) → IsVector f k a →
         gathered f g ys zs a ≡ gathered f g (hl ++ hr') (ml ++ mr) a
     both hl ml hr' mr p q a ha =

@@ -1,11 +1,10 @@
 -- Digits at the leads of reduced rows are coordinates, and combinations of columns are products.
-use Rattle.std.proofs.Common.{ℕ, suc, ◌<◌, ◌≡◌, List, [], ◌∷◌, length, map, get_or, refl, sym, ap, ap₂, ◌∙◌, subst, arith, ext_get_or}
+use Rattle.std.proofs.Common.{ℕ, ◌<◌, ◌≡◌, List, [], ◌∷◌, length, map, get_or, refl, sym, ap, ap₂, ◌∙◌, subst, arith, ext_get_or}
 use Rattle.std.proofs.lemmas.List.{length-map, get_or-map}
-use Rattle.std.proofs.lemmas.List.Elements.{All-head, All-tail}
 use Rattle.std.specs.List.{All}
 use Rattle.mm_field.specs.declared.Field.{Field}
-use Rattle.mm_field.specs.Vectors.{combination, IsVector, AreVectors, InSpan, IsWithin}
-use Rattle.mm_field.proofs.CombinationLemmas.{first_row, other_rows, IsVector-combination}
+use Rattle.mm_field.specs.Vectors.{combination, IsVector, AreVectors, InSpan}
+use Rattle.mm_field.proofs.CombinationLemmas.{IsVector-combination}
 use Rattle.mm_linear.specs.Coordinates.{unit}
 use Rattle.mm_linear.proofs.PivotLemmas.{count_leads}
 use Rattle.mm_matrix.specs.Columns.{column}
@@ -13,7 +12,7 @@ use Rattle.mm_matrix.specs.Orthogonal.{dot}
 use Rattle.mm_matrix.specs.Residues.{AreReduced}
 use Rattle.mm_matrix.specs.Projections.{units}
 use Rattle.mm_matrix.proofs.ColumnLemmas.{digit_of_combination, IsVector-column}
-use Rattle.mm_matrix.proofs.DotLemmas.{dot-comm, dot-unit, dot-combination, dot_below}
+use Rattle.mm_matrix.proofs.DotLemmas.{dot-comm, dot-unit, dot-combination}
 use Rattle.mm_matrix.proofs.FreeLemmas.{column_at_lead}
 use Rattle.mm_matrix.proofs.NullLemmas.{leads_inside, at_leads, map_twice, AreVectors-units}
 

@@ -13,3 +13,4 @@ pub mod RankLemmas
 pub mod BuildLemmas
 pub mod StepLemmas
 pub mod EqualLemmas
+pub mod MakeLemmas

@@ -1,5 +1,5 @@
 -- The meet of two spans by rows that span it.
-use Rattle.std.proofs.Common.{ℕ, ◌≡◌, ◌↔◌, true, ◌&&◌, List}
+use Rattle.std.proofs.Common.{ℕ, ◌≡◌, ◌↔◌, ◌&&◌, List}
 use Rattle.std.proofs.lemmas.Bool.{and_parts, and_from}
 use Rattle.mm_field.specs.declared.Field.{Field}
 use Rattle.mm_field.specs.Vectors.{IsVector, AreVectors, InSpan}

@@ -1,7 +1,7 @@
 -- The operator of a join is valid, and its matrices are written and read back.
-use Rattle.std.proofs.Common.{ℕ, zero, suc, ◌+◌, ◌-◌, ◌<◌, ◌≤◌, ◌≡◌, Bool, true, false, List, [], ◌∷◌, ◌++◌, length, map, get_or, refl, sym, ap, ap₂, ◌∙◌, subst, arith, append_assoc, length-append, ext_get_or, zero-add, take, drop, take_all, Option, Some}
+use Rattle.std.proofs.Common.{ℕ, zero, suc, ◌+◌, ◌-◌, ◌<◌, ◌≤◌, ◌≡◌, Bool, true, false, List, [], ◌∷◌, ◌++◌, length, map, get_or, refl, sym, ap, ap₂, ◌∙◌, subst, arith, append_assoc, length-append, ext_get_or, zero-add, take, drop, take_all, Some}
 use Rattle.std.specs.Prelude.{if◌then◌else◌}
-use Rattle.std.specs.List.{All, range_with_len}
+use Rattle.std.specs.List.{range_with_len}
 use Rattle.std.proofs.lemmas.List.FromFn.{get_or-range_with_len, length-range_with_len}
 use Rattle.std.proofs.Common.{length-take-le, length-drop, get_or-drop}
 use Rattle.std.proofs.Math.Seq.{drop-cons}
@@ -16,7 +16,7 @@ use Rattle.mm_linear.specs.ReducedEchelon.{reduced_basis, IsReducedBasis}
 use Rattle.mm_linear.proofs.CoordinateLemmas.{IsVector-coordinates, coordinates_combine}
 use Rattle.mm_linear.proofs.FirstUnits.{first_units_independent, first_units_are, first_units_count}
 use Rattle.mm_linear.proofs.ReducedEchelonLemmas.{reduced_basis_is}
-use Rattle.mm_logic.specs.Operator.{IsBoundary, IsValidOp, row_length}
+use Rattle.mm_logic.specs.Operator.{IsBoundary, IsValidOp}
 use Rattle.mm_matrix.specs.MatrixValue.{MatrixValue}
 use Rattle.mm_matrix.specs.Columns.{column}
 use Rattle.mm_matrix.specs.Residues.{AreReduced}
@@ -25,14 +25,14 @@ use Rattle.mm_matrix.proofs.ColumnLemmas.{IsVector-column}
 use Rattle.mm_matrix.proofs.FreeLemmas.{reduced_independent}
 use Rattle.mm_matrix.proofs.NullLemmas.{leads_inside}
 use Rattle.mm_decomp.proofs.FormLemmas.{length-all_columns}
-use Rattle.mm_space.specs.VectorText.{vector_text, joined_text, gen_text, IsGenText}
+use Rattle.mm_space.specs.VectorText.{vector_text, joined_text, gen_text}
 use Rattle.mm_space.specs.DigitTexts.{vectors_of}
 use Rattle.mm_space.proofs.DigitTextLemmas.{vectors_of_text}
 use Rattle.mm_decomp.specs.BuiltTree.{operator_in, built_operator}
-use Rattle.mm_decomp.specs.Forms.{all_columns, AreCoordinates, AreBases}
+use Rattle.mm_decomp.specs.Forms.{all_columns, AreCoordinates}
 use Rattle.mm_decomp.specs.Meets.{extended}
 use Rattle.mm_decomp.proofs.LeadLemmas.{AreVectors-columns}
-use Rattle.mm_decomp.proofs.FrameLemmas.{picked, HasDependencies, picked_is_extended, extended_front, vector_by_column, coordinates_are_column, dependencies_at_leads}
+use Rattle.mm_decomp.proofs.FrameLemmas.{picked, picked_is_extended, extended_front, vector_by_column, coordinates_are_column, dependencies_at_leads}
 
 -- ---- how long an extended list is
 
@@ -154,11 +154,11 @@ coordinates_found f g all ls h red within =
       })),
       c,
       ext_get_or [] (all_columns m R) (map (coordinates f g list) all) (omega arith) (λ j lj.
-      let l : j < m = omega arith in
-      get_or-map (column R) (range_with_len 0 m) j 0 [] (omega arith) ∙ ap (column R) (get_or-range_with_len 0 m j 0 l ∙ zero-add j)
-      ∙ sym (coordinates_are_column f g all R ks j h redR dep l)
-      ∙ ap (λ (xs : List (List ℕ)). coordinates f g xs (get_or all j [])) (sym e)
-      ∙ sym (get_or-map (coordinates f g list) all j [] [] l)),
+          let l : j < m = omega arith in
+          get_or-map (column R) (range_with_len 0 m) j 0 [] (omega arith) ∙ ap (column R) (get_or-range_with_len 0 m j 0 l ∙ zero-add j)
+          ∙ sym (coordinates_are_column f g all R ks j h redR dep l)
+          ∙ ap (λ (xs : List (List ℕ)). coordinates f g xs (get_or all j [])) (sym e)
+          ∙ sym (get_or-map (coordinates f g list) all j [] [] l)),
     )
   where
     same_default : (vs : List (List ℕ)) (i : ℕ) (d : List ℕ) → i < length vs → get_or vs i [] ≡ get_or vs i d

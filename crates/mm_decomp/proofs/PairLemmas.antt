@@ -1,16 +1,16 @@
 -- Sums of products of two lists of vectors, and the same sum with a reduced list in it.
-use Rattle.std.proofs.Common.{ℕ, ◌<◌, ◌≡◌, List, [], ◌∷◌, length, map, get_or, refl, sym, ap, ap₂, ◌∙◌, subst, arith}
-use Rattle.std.proofs.lemmas.List.{length-map, get_or-map}
+use Rattle.std.proofs.Common.{ℕ, ◌<◌, ◌≡◌, List, [], ◌∷◌, length, map, get_or, refl, sym, ap, ap₂, ◌∙◌, arith}
+use Rattle.std.proofs.lemmas.List.{length-map}
 use Rattle.std.proofs.lemmas.List.Elements.{All-head, All-tail}
 use Rattle.mm_field.specs.declared.Field.{Field}
-use Rattle.mm_field.specs.Vectors.{combination, times_matrix, IsVector, AreVectors, InSpan, IsWithin}
-use Rattle.mm_field.proofs.CombinationLemmas.{first_row, other_rows, combination-times_matrix, IsVector-combination, InSpan-combination}
+use Rattle.mm_field.specs.Vectors.{combination, AreVectors, InSpan, IsWithin}
+use Rattle.mm_field.proofs.CombinationLemmas.{combination-times_matrix, InSpan-combination}
 use Rattle.mm_linear.proofs.PivotLemmas.{count_leads}
 use Rattle.mm_matrix.specs.Columns.{column}
 use Rattle.mm_matrix.specs.Orthogonal.{dot}
 use Rattle.mm_matrix.specs.Residues.{AreReduced}
 use Rattle.mm_matrix.proofs.ColumnLemmas.{digit_of_combination}
-use Rattle.mm_matrix.proofs.DotLemmas.{dot-comm, dot-combination, dot_below}
+use Rattle.mm_matrix.proofs.DotLemmas.{dot-comm, dot-combination}
 use Rattle.mm_matrix.proofs.NullLemmas.{leads_inside}
 use Rattle.mm_decomp.specs.Forms.{gathered, sums}
 use Rattle.mm_decomp.proofs.LeadLemmas.{digits_at, combination_by_leads, combination_of_columns, AreVectors-columns}

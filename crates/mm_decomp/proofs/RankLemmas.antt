@@ -1,5 +1,5 @@
 -- How many rows a reduced basis has.
-use Rattle.std.proofs.Common.{ℕ, zero, suc, ◌+◌, ◌<◌, ◌≤◌, ◌≡◌, Option, Some, None, List, [], ◌∷◌, length, replicate, refl, ap, arith}
+use Rattle.std.proofs.Common.{ℕ, zero, suc, ◌≤◌, ◌≡◌, Option, Some, None, List, [], ◌∷◌, length, replicate, refl, ap, arith}
 use Rattle.mm_field.specs.declared.Field.{Field}
 use Rattle.mm_field.specs.Vectors.{zeros, IsVector, AreVectors, AreIndependent, IsWithin}
 use Rattle.mm_field.proofs.CombinationLemmas.{first_row, other_rows, IsWithin-within}
@@ -12,7 +12,6 @@ use Rattle.mm_linear.proofs.InsertLemmas.{new_row}
 use Rattle.mm_linear.proofs.SpaceLemmas.{zeros_within}
 use Rattle.mm_linear.proofs.BasisLemmas.{rank_of_independent}
 use Rattle.mm_linear.proofs.ReducedEchelonLemmas.{reduced_basis_is}
-use Rattle.mm_matrix.specs.Residues.{AreReduced}
 use Rattle.mm_matrix.proofs.FreeLemmas.{reduced_independent}
 
 no_rank : (k n : ℕ) → k ≤ n → rank_to k (replicate n (zeros n)) ≡ 0

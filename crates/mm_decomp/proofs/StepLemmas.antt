@@ -1,12 +1,12 @@
 -- How the shapes that are not joined yet grow by the steps.
-use Rattle.std.proofs.Common.{ℕ, ℤ, zero, suc, ◌+◌, ◌<◌, ◌≤◌, ◌≡◌, List, [], ◌∷◌, ◌++◌, length, take, drop, get_or, reverse, refl, sym, ap, ap₂, ◌∙◌, subst, arith, length-append, length-take-le, append_assoc, append-nil, ◌-◌, ◌^◌, cond, Some, None, w64, to_z, of_z, Result, Ok, Err}
+use Rattle.std.proofs.Common.{ℕ, ℤ, suc, ◌+◌, ◌<◌, ◌≤◌, ◌≡◌, List, [], ◌∷◌, ◌++◌, length, take, drop, get_or, refl, sym, ap, ◌∙◌, subst, arith, length-append, length-take-le, append_assoc, append-nil, ◌^◌, cond, Some, None, w64, to_z, of_z, Result, Ok, Err}
 use Rattle.std.specs.Prelude.{nat_lt, nat_abs, pos, negsuc}
 use Rattle.std.specs.List.{All, position, position_or_len}
 use Rattle.std.proofs.lemmas.Bool.{lt-ltb, le-ltb}
 use Rattle.std.proofs.lemmas.List.Sums.{position_or_len_is}
 use Rattle.std.proofs.lemmas.Int.{to_z-of_z}
 use Rattle.std.proofs.Math.Seq.{drop-cons}
-use Rattle.std.proofs.lemmas.List.{take_more, get_or_append_left, get_or-append_right}
+use Rattle.std.proofs.lemmas.List.{take_more, get_or_append_left}
 use Rattle.std.proofs.lemmas.List.Elements.{All-nil, All-cons}
 use Rattle.std.proofs.Common.{take-append-drop}
 use Rattle.mm_decomp.specs.declared.shape.Step.{Step}
@@ -18,7 +18,7 @@ use Rattle.mm_decomp.specs.declared.form.Form.{Form}
 use Rattle.mm_decomp.specs.Shapes.{Shape, joins, after_step, after_steps, leaf_names, FindTwo, IsLight}
 use Rattle.mm_decomp.specs.Shapes.Shape.{Leaf, Join}
 use Rattle.mm_decomp.specs.Stack.{LeafColumns, leaves, leaves_in, joins_in, AreFormsOf, IsFormAt, boundaries_in, found_boundaries, found_space}
-use Rattle.mm_decomp.specs.Steps.{AreOf, Fit, IsBuilding, JoinsLast, LastFit, TakesStep, last_boundary}
+use Rattle.mm_decomp.specs.Steps.{AreOf, IsBuilding, JoinsLast, LastFit, TakesStep, last_boundary}
 use Rattle.mm_decomp.specs.Forms.{HasSizes}
 use Rattle.mm_linear.specs.ReducedEchelon.{IsReducedBasis}
 use Rattle.mm_field.specs.declared.Field.{Field}
@@ -91,7 +91,7 @@ leaf_in xs i d name weight l e h =
     let front = FindTwo-front [] (take i xs) (steps.Leaf name weight ∷ drop (suc i) xs) (subst (λ ys. FindTwo [] ys) p h) in
     let a = leaves_after [] (take i xs) front in
     let b = ap (λ ys. length (leaf_names ys)) p ∙ ap length (leaf_names-append (take i xs) (steps.Leaf name weight ∷ drop (suc i) xs))
-        ∙ length-append (leaf_names (take i xs)) (name ∷ leaf_names (drop (suc i) xs)) in
+    ∙ length-append (leaf_names (take i xs)) (name ∷ leaf_names (drop (suc i) xs)) in
     omega (arith, a, b)
 
 pub leaves_most : (xs : List Step) (i : ℕ) → FindTwo [] xs → leaves_in (after_steps [] (take i xs)) ≤ length (leaf_names xs)
@@ -100,7 +100,7 @@ leaves_most xs i h =
     let front = FindTwo-front [] (take i xs) (drop i xs) (subst (λ ys. FindTwo [] ys) p h) in
     let a = leaves_after [] (take i xs) front in
     let b = ap (λ ys. length (leaf_names ys)) p ∙ ap length (leaf_names-append (take i xs) (drop i xs))
-        ∙ length-append (leaf_names (take i xs)) (leaf_names (drop i xs)) in
+    ∙ length-append (leaf_names (take i xs)) (leaf_names (drop i xs)) in
     omega (arith, a, b)
 
 -- ---- the forms of the last two

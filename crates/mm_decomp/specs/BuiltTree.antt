@@ -44,6 +44,6 @@ built given k outside (Leaf name weight) = named.Tree.Elem name (first_digit (co
 built given k outside (Join left right) =
     named.Tree.Join (join_name (k + joins left + joins right + 1))
     (built_operator given.f (length given.rows) (space given outside (Join left right)) (space given (outside ++ names right) left)
-        (space given (outside ++ names left) right))
+    (space given (outside ++ names left) right))
     (built given k (outside ++ names right) left)
     (built given (k + joins left) (outside ++ names left) right)

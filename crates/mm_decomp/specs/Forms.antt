@@ -9,7 +9,7 @@ use Rattle.mm_field.specs.Vectors.{zeros, combination, times_matrix, IsVector, A
 use Rattle.mm_linear.specs.Coordinates.{coordinates}
 use Rattle.mm_linear.specs.ReducedEchelon.{reduced_basis, IsReducedBasis}
 use Rattle.mm_matrix.specs.Columns.{column}
-use Rattle.mm_matrix.specs.MatrixValue.{MatrixValue, reduced}
+use Rattle.mm_matrix.specs.MatrixValue.{MatrixValue}
 use Rattle.mm_matrix.specs.Orthogonal.{dot}
 use Rattle.mm_matrix.specs.Residues.{AreReduced}
 use Rattle.mm_decomp.specs.Meets.{extended}

@@ -2,14 +2,11 @@
 --
 -- The leaves are numbered from 0 in the order of the steps, and hs and ms have a vector and a column for each of them. A shape that
 -- begins at leaf p stands on the vectors and columns from p on.
-use Rattle.std.specs.Prelude.{ℕ, ◌+◌, ◌≡◌, ◌≤◌, List, [], ◌∷◌, ◌++◌, take, drop, length, slice_index_or, nat_abs, All}
-use Rattle.std.specs.List.{IsDistinct}
-use Rattle.std.specs.Str.{bytes_eq}
+use Rattle.std.specs.Prelude.{ℕ, ◌+◌, ◌≡◌, ◌≤◌, List, [], ◌∷◌, ◌++◌, take, drop, length, slice_index_or}
 use Rattle.mm_field.specs.declared.Field.{Field}
 use Rattle.mm_linear.specs.ReducedEchelon.{reduced_basis, IsReducedBasis}
 use Rattle.mm_tree.specs.NamedTree as named
 use Rattle.mm_tree.specs.NamedTree.{Tree}
-use Rattle.mm_tree.specs.ValidTree.{most_weight}
 use Rattle.mm_decomp.specs.BuiltTree.{built_operator, first_digit, join_name}
 use Rattle.mm_decomp.specs.Forms.{HasSizes, IsFormOf, products}
 use Rattle.mm_decomp.specs.Shapes.{Shape, joins}

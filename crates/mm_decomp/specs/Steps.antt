@@ -2,11 +2,9 @@
 use Rattle.std.specs.Prelude.{ℕ, ◌+◌, ◌-◌, ◌<◌, ◌≡◌, ◌≤◌, ℤ, List, [], ◌∷◌, ◌++◌, length, reverse, take, slice_index_or, All, Ok, Err, Some, nat_lt}
 use Rattle.std.specs.List.{position}
 use Rattle.std.specs.declared.result.Result.{Result}
-use Rattle.mm_base.specs.declared.failure.NoMemory.{NoMemory}
 use Rattle.mm_field.specs.declared.Field.{Field}
 use Rattle.mm_linear.specs.ReducedEchelon.{IsReducedBasis}
 use Rattle.mm_matrix.specs.MatrixValue.{MatrixValue}
-use Rattle.mm_ops.specs.OpValue.{OpValue}
 use Rattle.mm_tree.specs.Building.{AreOver, joined}
 use Rattle.mm_tree.specs.TreeValue.{TreeValue}
 use Rattle.mm_decomp.specs.BuiltTree.{built_operator, join_name}

@@ -31,11 +31,7 @@ fn set_of(alloc: Global, names: &NameList) -> Result<IndexSet<Name>, NoMemory>
 }
 
 /// Puts the place of a leaf's name in the set after the others; a join has none.
-fn push_place(
-    set: &IndexSet<Name>,
-    step: &Step,
-    places: &mut Vec<usize>,
-) -> Result<(), NoMemory>
+fn push_place(set: &IndexSet<Name>, step: &Step, places: &mut Vec<usize>) -> Result<(), NoMemory>
     requires { All (λ name. is_one_of name set.now.keys ≡ true) (leaf_names (step.now ∷ [])) }
     ensures { OnOk result (places.new.items ≡ places.old.items ++ map (place_in set.now.keys) (leaf_names (step.now ∷ []))) }
 {
@@ -49,11 +45,7 @@ fn push_place(
 }
 
 /// The places of the leaves' names in the set, in the order of the leaves.
-fn places_of(
-    alloc: Global,
-    set: &IndexSet<Name>,
-    steps: &[Step],
-) -> Result<Vec<usize>, NoMemory>
+fn places_of(alloc: Global, set: &IndexSet<Name>, steps: &[Step]) -> Result<Vec<usize>, NoMemory>
     requires { All (λ name. is_one_of name set.now.keys ≡ true) (leaf_names steps.now) }
     ensures { IfOk result (λ places. places.items ≡ map (place_in set.now.keys) (leaf_names steps.now)) }
 {

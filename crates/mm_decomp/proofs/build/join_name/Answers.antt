@@ -1,4 +1,4 @@
-use Rattle.std.proofs.Common.{ℕ, ◌≡◌, true, Bool, refl, sym, ap, subst, ◌∙◌, Some, None}
+use Rattle.std.proofs.Common.{Bool, refl, sym, ap, subst, ◌∙◌, Some, None}
 use Rattle.std.specs.Prelude.{if◌then◌else◌}
 use Rattle.std.specs.Option.{IsSome}
 use Rattle.mm_base.specs.Names.{name_of}

@@ -1,9 +1,9 @@
-use Rattle.std.proofs.Common.{ℕ, ◌≡◌, ◌↔◌, List, length, map, ap, ap₂, sym, subst, ◌∙◌}
+use Rattle.std.proofs.Common.{ℕ, ◌≡◌, length, ap, ap₂, subst, ◌∙◌}
 use Rattle.std.proofs.lemmas.Result.{IfOk-weaker}
 use Rattle.mm_field.specs.declared.Field.{Field}
-use Rattle.mm_field.specs.Vectors.{IsVector, AreVectors, InSpan}
+use Rattle.mm_field.specs.Vectors.{AreVectors}
 use Rattle.mm_matrix.specs.MatrixValue.{MatrixValue, reduced}
-use Rattle.mm_matrix.specs.Orthogonal.{IsNullOf, IsOrthogonal}
+use Rattle.mm_matrix.specs.Orthogonal.{IsNullOf}
 use Rattle.mm_decomp.specs.Forms.{all_columns, IsBasisOfDependencies}
 use Rattle.mm_decomp.proofs.FormLemmas.{dependencies_of_null}
 use Rattle.mm_decomp.proofs.columns.dependencies.Goals as goal

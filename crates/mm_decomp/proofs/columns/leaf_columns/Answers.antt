@@ -1,8 +1,7 @@
-use Rattle.std.proofs.Common.{ℕ, true, ◌<◌, ◌≡◌, List, [], ◌∷◌, length, map, refl, ap, ap₂, sym, subst, ◌∙◌}
+use Rattle.std.proofs.Common.{ℕ, ◌<◌, ◌≡◌, List, [], ◌∷◌, length, map, refl, ap, sym, subst, ◌∙◌}
 use Rattle.std.specs.List.{All}
 use Rattle.std.proofs.lemmas.Result.{IfOk-weaker}
 use Rattle.mm_matrix.specs.Columns.{column}
-use Rattle.mm_tree.specs.NamedTree.{is_one_of}
 use Rattle.mm_decomp.specs.Building.{given_of}
 use Rattle.mm_decomp.specs.Shapes.{leaf_names}
 use Rattle.mm_decomp.specs.Spaces.{column_of, place_in}

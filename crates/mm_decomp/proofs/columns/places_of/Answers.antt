@@ -1,4 +1,4 @@
-use Rattle.std.proofs.Common.{ℕ, true, ◌≡◌, List, [], ◌∷◌, map, ap, sym, subst, ◌∙◌, arith}
+use Rattle.std.proofs.Common.{true, ◌≡◌, [], ◌∷◌, map, ap, sym, subst, ◌∙◌, arith}
 use Rattle.std.specs.List.{All}
 use Rattle.std.proofs.lemmas.List.{take_all}
 use Rattle.mm_tree.specs.NamedTree.{is_one_of}

@@ -1,12 +1,9 @@
-use Rattle.std.proofs.Common.{ℕ, ◌<◌, ◌≡◌, List, length, map, refl, sym, ap, subst, ◌∙◌, arith}
-use Rattle.mm_field.specs.declared.Field.{Field}
+use Rattle.std.proofs.Common.{ℕ, ◌≡◌, List, map, ap, subst, ◌∙◌}
 use Rattle.mm_field.specs.Vectors.{times_matrix, AreVectors, IsWithin}
 use Rattle.mm_linear.specs.ReducedEchelon.{reduced_basis}
-use Rattle.mm_matrix.specs.Columns.{column}
 use Rattle.mm_matrix.specs.MatrixValue.{MatrixValue, reduced}
 use Rattle.mm_matrix.specs.Residues.{AreReduced}
 use Rattle.mm_matrix.proofs.NullLemmas.{leads_inside}
-use Rattle.mm_decomp.specs.Forms.{sums, ReducesBeside}
 use Rattle.mm_decomp.proofs.form.reduce_beside.Goals as goal
 
 leads_of : (m space : MatrixValue) (ks : List ℕ) → space ≡ reduced m → AreReduced space.f space.cols space.rows ks →

@@ -1,5 +1,4 @@
-use Rattle.std.proofs.Common.{ℕ, ◌≡◌, List, [], length, map, ap, ap₂, sym, subst, ◌∙◌}
-use Rattle.mm_field.specs.declared.Field.{Field}
+use Rattle.std.proofs.Common.{ℕ, ◌≡◌, List, [], length, map, ap, ap₂, subst, ◌∙◌}
 use Rattle.mm_linear.specs.ReducedEchelon.{reduced_basis}
 use Rattle.mm_matrix.specs.Columns.{column}
 use Rattle.mm_matrix.specs.MatrixValue.{MatrixValue, reduced}

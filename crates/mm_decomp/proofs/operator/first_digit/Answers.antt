@@ -1,5 +1,4 @@
-use Rattle.std.proofs.Common.{ℕ, ◌+◌, ◌≡◌, List, [], ◌∷◌, length, get_or, ap, ap₂, sym, subst, ◌∙◌, arith, Some, Option}
-use Rattle.std.specs.Option.{IfSome, IfNone}
+use Rattle.std.proofs.Common.{◌≡◌, [], ◌∷◌, length, get_or, ap, sym, ◌∙◌, Some}
 use Rattle.std.proofs.lemmas.Option.{same_Some}
 use Rattle.mm_space.specs.DigitTexts.{vector_of}
 use Rattle.mm_decomp.specs.BuiltTree.{first_digit}

@@ -1,11 +1,11 @@
-use Rattle.std.proofs.Common.{ℕ, ◌+◌, ◌-◌, ◌<◌, ◌≤◌, ◌≡◌, List, ◌++◌, length, map, take, drop, refl, ap, ap₂, sym, subst, ◌∙◌, arith, Ok, Err, None, Some, Result}
+use Rattle.std.proofs.Common.{ℕ, ◌+◌, ◌-◌, ◌≡◌, List, ◌++◌, length, map, take, drop, refl, ap, ap₂, sym, subst, ◌∙◌, arith, Ok, Err, None, Result}
 use Rattle.std.specs.List.{range_with_len, All}
 use Rattle.std.specs.Result.{IsOk}
 use Rattle.std.proofs.lemmas.Option.{none-some}
 use Rattle.mm_field.specs.declared.Field.{Field}
-use Rattle.mm_field.specs.Vectors.{AreDigits, AreVectors}
+use Rattle.mm_field.specs.Vectors.{AreDigits}
 use Rattle.mm_linear.specs.Coordinates.{unit}
-use Rattle.mm_logic.specs.Operator.{Op, IsBoundary, IsValidOp}
+use Rattle.mm_logic.specs.Operator.{Op, IsBoundary}
 use Rattle.mm_matrix.specs.MatrixValue.{MatrixValue}
 use Rattle.mm_ops.specs.OpFaults.{Makes, fault_of}
 use Rattle.mm_ops.specs.OpValue.{OpValue, operator}

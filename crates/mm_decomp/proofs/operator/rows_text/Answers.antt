@@ -1,4 +1,4 @@
-use Rattle.std.proofs.Common.{ℕ, ◌+◌, ◌≡◌, ◌<◌, ◌++◌, ◌∷◌, [], ap, ap₂, sym, ◌∙◌, arith}
+use Rattle.std.proofs.Common.{◌++◌, ◌∷◌, [], ap, ◌∙◌, arith}
 use Rattle.mm_space.specs.VectorText.{vector_text}
 use Rattle.mm_decomp.proofs.OperatorLemmas.{rows_text_step, rows_text_done}
 use Rattle.mm_decomp.proofs.operator.rows_text.Goals as goal

@@ -1,4 +1,4 @@
-use Rattle.std.proofs.Common.{ℕ, ◌<◌, sym, ap, subst, ◌∙◌}
+use Rattle.std.proofs.Common.{◌<◌, sym, ap, subst, ◌∙◌}
 use Rattle.std.specs.List.{All, range_with_len}
 use Rattle.mm_matrix.proofs.FreeLemmas.{range_inside}
 use Rattle.mm_decomp.proofs.operator.transposed.Goals as goal

@@ -1,12 +1,11 @@
-use Rattle.std.proofs.Common.{ℕ, ◌<◌, ◌≡◌, List, refl, sym, ap, ap₂, subst, ◌∙◌, arith, length, get_or, ◌-◌, ◌∷◌, Vec, Global, reverse}
+use Rattle.std.proofs.Common.{ℕ, ◌≡◌, List, sym, ap, subst, ◌∙◌, arith, get_or, ◌-◌, ◌∷◌, Vec, Global, reverse}
 use Rattle.mm_field.specs.declared.Field.{Field}
 use Rattle.mm_ops.specs.OpValue.{OpValue}
 use Rattle.mm_decomp.specs.Steps.{Fit, IsJoined, IsWide, AreOf, LastFit, Joins, JoinsLast}
-use Rattle.mm_decomp.specs.declared.build.Joined.{Joined}
 use Rattle.mm_decomp.specs.declared.form.Form.{Form}
 use Rattle.mm_decomp.proofs.BuildLemmas.{EndsWith, ends_with, last_two, left_form, right_form, join_made, wide_space}
 use Rattle.mm_decomp.proofs.build.Building.join.Goals as goal
-use Rattle.std.proofs.Common.{Result, Ok, Err}
+use Rattle.std.proofs.Common.{Err}
 use Rattle.mm_decomp.specs.declared.build.DecompFault.{DecompFault}
 use Rattle.mm_decomp.specs.declared.build.DecompFault.TheVariants.{Width, NoMemory}
 use Rattle.mm_decomp.specs.declared.build.Building.{Building}
@@ -56,9 +55,11 @@ returns-in_ok-put_join-in-Ok c k left right shapes b =
 
 fault_told : (old new : Building) (w : EndsWith old.forms.items) (l r : Form) (step : ℕ) (fault : DecompFault) → l ≡ w.left → r ≡ w.right →
     Joins l r step (Err fault) → JoinsLast old new step (Err fault)
-fault_told old new w l r step (Width n) el er m =
-    (m.0, λ c left right shapes b.
-    wide_space c left right shapes old w b (subst (λ x. IsWide x w.right) el (subst (λ x. IsWide l x) er m.1)))
+fault_told old new w l r step (Width n) el er m = (
+  m.0,
+  λ c left right shapes b.
+      wide_space c left right shapes old w b (subst (λ x. IsWide x w.right) el (subst (λ x. IsWide l x) er m.1)),
+)
 fault_told old new w l r step NoMemory el er m = tt
 
 pub returns-in-Err : goal.returns-in-Err

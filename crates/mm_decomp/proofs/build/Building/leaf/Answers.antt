@@ -1,4 +1,4 @@
-use Rattle.std.proofs.Common.{ℕ, ℤ, w64, ◌≡◌, ◌≤◌, List, ◌∷◌, refl, sym, ap, subst, ◌∙◌, arith, length}
+use Rattle.std.proofs.Common.{ℕ, ℤ, w64, ◌≤◌, List, ◌∷◌, refl, sym, ap, subst, ◌∙◌, length}
 use Rattle.std.proofs.lemmas.Int.{to_z-of_z}
 use Rattle.mm_field.specs.declared.Field.{Field}
 use Rattle.mm_field.specs.Vectors.{AreDigits}

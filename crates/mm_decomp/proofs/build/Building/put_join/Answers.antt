@@ -1,9 +1,6 @@
-use Rattle.std.proofs.Common.{ℕ, ◌+◌, ◌≡◌, List, ◌++◌, ◌∷◌, [], refl, sym, ap, ap₂, subst, ◌∙◌, arith, take, length, ◌-◌}
-use Rattle.mm_ops.specs.OpValue.{OpValue}
+use Rattle.std.proofs.Common.{ℕ, List, ◌++◌, ◌∷◌, [], refl, sym, ap, subst, ◌∙◌, take, ◌-◌}
 use Rattle.mm_ops.specs.Tables.{op_named, OperatorList}
 use Rattle.mm_tree.specs.Building.{AreOver, joined, joined_by}
-use Rattle.mm_tree.specs.NamedTree.{Tree}
-use Rattle.mm_decomp.specs.BuiltTree.{join_name}
 use Rattle.mm_decomp.proofs.BuildLemmas.{named_last, none_named, over_more}
 use Rattle.mm_decomp.proofs.build.Building.put_join.Goals as goal
 

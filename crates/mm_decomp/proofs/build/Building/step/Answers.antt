@@ -1,10 +1,10 @@
-use Rattle.std.proofs.Common.{ℕ, ◌+◌, ◌<◌, ◌≤◌, ◌≡◌, List, [], ◌∷◌, refl, sym, ap, ap₂, subst, ◌∙◌, arith, length, take, reverse, get_or}
+use Rattle.std.proofs.Common.{[], ◌∷◌, refl, sym, ap, subst, ◌∙◌, arith, take, reverse, get_or}
 use Rattle.mm_decomp.specs.declared.shape.Step.TheVariants as steps
-use Rattle.mm_decomp.specs.Shapes.{after_step, after_steps, leaf_names}
+use Rattle.mm_decomp.specs.Shapes.{after_steps}
 use Rattle.mm_decomp.specs.Shapes.Shape.{Leaf}
-use Rattle.mm_decomp.specs.Stack.{leaves_in, AreFormsOf}
-use Rattle.mm_decomp.specs.Steps.{IsBuilding, LastFit, leaf_columns_of}
-use Rattle.mm_decomp.proofs.StepLemmas.{next_shapes, two_at, leaf_in, leaves_most, joins_and_leaves, forms_over, last_fit, TwoLast, two_last, takes_join, weight_light, weight_fits}
+use Rattle.mm_decomp.specs.Stack.{AreFormsOf}
+use Rattle.mm_decomp.specs.Steps.{IsBuilding, leaf_columns_of}
+use Rattle.mm_decomp.proofs.StepLemmas.{next_shapes, two_at, leaf_in, leaves_most, joins_and_leaves, forms_over, last_fit, two_last, takes_join, weight_light, weight_fits}
 use Rattle.mm_decomp.proofs.build.Building.step.Goals as goal
 
 pub row-requires : goal.row-requires

@@ -1,4 +1,4 @@
-use Rattle.std.proofs.Common.{ℕ, [], ◌∷◌, length, subst, sym}
+use Rattle.std.proofs.Common.{[], ◌∷◌, length, subst}
 use Rattle.mm_matrix.specs.MatrixValue.{MatrixValue}
 use Rattle.mm_decomp.specs.Forms.{ReducesBeside}
 use Rattle.mm_decomp.proofs.JoinFormLemmas.{leaf_form}
