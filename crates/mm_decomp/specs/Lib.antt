@@ -6,3 +6,4 @@ pub mod Building
 pub mod Forms
 pub mod Stack
 pub mod Steps
+pub mod ShapeBuilding

@@ -10,6 +10,8 @@ mod columns;
 mod form;
 mod operator;
 mod shape;
+mod shape_builder;
 
 pub use build::{DecompFault, build_tree};
 pub use shape::{Shape, Step};
+pub use shape_builder::{ShapeBuilder, ShapeFault};

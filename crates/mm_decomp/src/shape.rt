@@ -7,7 +7,10 @@ use mm_base::Name;
 use std::marker::Model;
 
 /// The most leaves of a shape.
-const MAX_LEAVES: usize = 4096;
+pub(crate) const MAX_LEAVES: usize = 4096;
+
+/// The most joins above a leaf.
+pub(crate) const MAX_DEPTH: u32 = 1023;
 
 /// A step of a shape.
 #[derive(Clone, Copy, Debug, PartialEq, Eq)]
@@ -39,6 +42,14 @@ impl Model for Shape {
 }
 
 impl Shape {
+    /// The shape of steps that make one.
+    pub(crate) fn of(steps: Vec<Step>) -> Shape
+        requires { IsShape steps.items }
+        ensures { result ≡ steps.items }
+    {
+        Shape { steps }
+    }
+
     /// The steps, in the order in which they were given.
     pub fn steps(&self) -> &[Step]
         ensures steps { result.now ≡ self.now }
