@@ -14,3 +14,4 @@ pub mod BuildLemmas
 pub mod StepLemmas
 pub mod EqualLemmas
 pub mod MakeLemmas
+pub mod ShapeBuilderLemmas
