@@ -8,6 +8,8 @@ mod base;
 #[cfg(test)]
 mod combine;
 #[cfg(test)]
+mod decomp;
+#[cfg(test)]
 mod field;
 #[cfg(test)]
 mod formula;
