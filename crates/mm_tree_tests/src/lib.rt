@@ -3,6 +3,8 @@
 #![tactic(auto)]
 
 #[cfg(test)]
+mod decomp;
+#[cfg(test)]
 mod present;
 #[cfg(test)]
 mod tree;

@@ -1,0 +1,17 @@
+pub mod LeadLemmas
+pub mod MeetLemmas
+pub mod CutLemmas
+pub mod PairLemmas
+pub mod FormLemmas
+pub mod FrameLemmas
+pub mod JoinFormLemmas
+pub mod OperatorLemmas
+pub mod FirstDigitLemmas
+pub mod ShapeLemmas
+pub mod JoinNameLemmas
+pub mod RankLemmas
+pub mod BuildLemmas
+pub mod StepLemmas
+pub mod EqualLemmas
+pub mod MakeLemmas
+pub mod ShapeBuilderLemmas

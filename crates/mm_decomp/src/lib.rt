@@ -1,0 +1,17 @@
+//! Parse trees from decompositions: a binary tree over the elements of a matrix, and at each of its nodes the space that the columns
+//! below have in common with the columns outside.
+//!
+//! Begin with `build_tree`. It looks at each node once, from the leaves up, and never at what lies outside a node: one basis of the
+//! dependencies of all columns stands for that.
+#![tactic(auto)]
+
+mod build;
+mod columns;
+mod form;
+mod operator;
+mod shape;
+mod shape_builder;
+
+pub use build::{DecompFault, build_tree};
+pub use shape::{Shape, Step};
+pub use shape_builder::{ShapeBuilder, ShapeFault};
