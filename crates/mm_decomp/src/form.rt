@@ -39,7 +39,8 @@ pub(crate) fn stack(alloc: Global, first: &Matrix, second: &Matrix) -> Result<Ma
 fn reduce_beside(alloc: Global, rows: &Matrix, others: &Matrix) -> Result<Reduced, NoMemory>
     requires field { others.now.f ≡ rows.now.f }
     requires count { length rows.now.rows ≡ length others.now.rows }
-    ensures { IfOk result (λ both. ReducesBeside rows.now.f rows.now.cols others.now.cols rows.now.rows others.now.rows both.rows both.sums) }
+    ensures { IfOk result (λ both.
+        ReducesBeside rows.now.f rows.now.cols others.now.cols rows.now.rows others.now.rows both.rows both.sums) }
 {
     let _ = others.rows();
     let space = Echelon::of(alloc, rows)?;
