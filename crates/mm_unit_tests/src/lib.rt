@@ -6,6 +6,8 @@
 #[cfg(test)]
 mod base;
 #[cfg(test)]
+mod base_auto;
+#[cfg(test)]
 mod combine;
 #[cfg(test)]
 mod field;
