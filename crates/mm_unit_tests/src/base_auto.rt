@@ -46,7 +46,10 @@ fn spaces_at_leaves(rt: HostRuntime) -> Result<(), Fail> {
     };
     let mut auto = Atom::Ind(IndAuto::new(alloc, Field::Two, term));
     let outside = auto.leaf(alloc, &VOID, 9)?;
-    assert_eq!(rt; auto.value(outside), AtomValue::Space(Key::zero(Field::Two, 1)));
+    assert_eq!(rt;
+        auto.value(outside),
+        AtomValue::Space(Key::zero(Field::Two, 1))
+    );
     auto.mark();
     let vector = Vector::read(Field::Two, b"1").ok_or("a vector")?;
     let letter = Letter {
