@@ -3,6 +3,8 @@
 #![tactic(auto)]
 
 #[cfg(test)]
+mod base_auto;
+#[cfg(test)]
 mod combine;
 #[cfg(test)]
 mod states;

@@ -49,6 +49,11 @@ impl Atom {
         }
     }
 
+    /// Whether it is `ind`, whose joins cost more than a look-up. No memory.
+    pub fn is_ind(&self) -> bool {
+        matches!(self, Atom::Ind(_))
+    }
+
     /// How many values there are. No memory.
     pub fn len(&self) -> u64
         ensures { result ≡ length (atom_values self.now) }

@@ -11,6 +11,7 @@ use Rattle.mm_ops.specs.OpValue.{OpValue}
 use Rattle.mm_ops.specs.contracts.op.OpPartialEq.TheImpl.{eq-value as op_eq}
 use Rattle.mm_ops.proofs.OpEquality.{op_same as one_operator}
 use Rattle.mm_states.specs.Cells.{Keeps}
+use Rattle.mm_states.specs.Memos.{no_answers}
 use Rattle.indexmap.specs.IndexSet.{insert_key}
 use Rattle.mm_states.specs.Numbered.{op_same, number_of, answer_by, with_number, IsNumbered, ForgetsJoins, KeepsJoin}
 
@@ -120,3 +121,6 @@ module _ (ops news : List OpValue) (op : OpValue) (none : list_any (op_same op) 
 
 pub forgets_after : (old mid new : OpValue → ℕ → ℕ → Option ℕ) → ForgetsJoins old mid → ForgetsJoins mid new → ForgetsJoins old new
 forgets_after old mid new f g o l r i h = f o l r i (g o l r i h)
+
+pub none_numbered : (ops : List OpValue) (answers : ℕ → ℕ → ℕ → Option ℕ) → answers ≡ no_answers → IsNumbered ops answers
+none_numbered ops answers e n l r i h = let no : None ≡ Some i = sym (ap (λ a. a n l r) e) ∙ h in cc

@@ -24,3 +24,7 @@ answer_of grids shift slots op left right =
 
 abbrev pub joins_answer : JoinMemo → ℕ → ℕ → ℕ → Option ℕ
 joins_answer m = answer_of m.grids.items m.cache.shift m.cache.slots.items
+
+-- nothing is remembered
+abbrev pub no_answers : ℕ → ℕ → ℕ → Option ℕ
+no_answers op left right = None

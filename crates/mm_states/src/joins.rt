@@ -1,8 +1,8 @@
 //! Joins that are remembered.
 
-ghost use Rattle.std.specs.Prelude.{◌≡◌, ◌<◌, ◌≤◌, ℕ, true, None, Some, IfSome, IfOk, OnOk, []};
+ghost use Rattle.std.specs.Prelude.{◌≡◌, ◌<◌, ◌≤◌, true, None, Some, IfSome, IfOk, OnOk, []};
 ghost use Rattle.mm_states.specs.Cells.{Forgets, Keeps};
-ghost use Rattle.mm_states.specs.Memos.{covered, joins_answer};
+ghost use Rattle.mm_states.specs.Memos.{covered, joins_answer, no_answers};
 
 use crate::cache::Cache;
 use crate::grid::{Grid, NOTHING, larger};
@@ -40,7 +40,7 @@ pub struct JoinMemo {
 impl JoinMemo {
     /// Remembers nothing. It takes no memory.
     pub fn new(alloc: Global) -> JoinMemo
-        ensures { (op left right id : ℕ) → joins_answer result op left right ≡ Some id → ⊥ }
+        ensures { joins_answer result ≡ no_answers }
     {
         JoinMemo {
             grids: Vec::new(alloc),
@@ -107,7 +107,7 @@ impl JoinMemo {
 
     /// Forgets all. No memory.
     pub fn clear(&mut self)
-        ensures { (op left right id : ℕ) → joins_answer self.new op left right ≡ Some id → ⊥ }
+        ensures { joins_answer self.new ≡ no_answers }
     {
         self.grids.clear();
         self.cells = 0;
