@@ -1,0 +1,4 @@
+pub mod KeptTrees
+pub mod KeptNodes
+pub mod Demands
+pub mod Calls

@@ -1,0 +1,12 @@
+//! What is kept at the nodes of a tree.
+#![tactic(auto)]
+
+mod build;
+mod keeps;
+mod kept;
+
+pub use keeps::{Keeps, KeepFault};
+pub use kept::Kept;
+
+/// The greatest limit on state sizes.
+const MAX_LIMIT: u64 = 4_194_304;
