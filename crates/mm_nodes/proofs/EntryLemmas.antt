@@ -5,6 +5,7 @@ use Rattle.mm_logic.specs.Value.{Value}
 use Rattle.mm_logic.specs.Occurrence.{nodes, occurring, distinct, list_cells, cells}
 use Rattle.mm_logic.specs.Growth.{root, missing_cells, AllGrown}
 use Rattle.mm_logic.proofs.GrowthLemmas.{list_cells-grown}
+use Rattle.mm_nodes.specs.declared.TheConstants.{MOST_ROWS}
 use Rattle.mm_nodes.specs.Demands.{IsWithin, IsExact}
 use Rattle.mm_nodes.specs.Calls.{Exceeds, IsRoom, AddsEntry, MakesEntry}
 use Rattle.mm_nodes.specs.declared.keeps.KeepFault.{KeepFault}
@@ -20,11 +21,11 @@ module _ (F : Formula) (olds : List (List Value)) (vs : List Value) (limit befor
   refused room e x r h full = exceeds_call F olds vs (before + length (distinct vs)) limit x (omega (arith, r, h full))
 
   pub entry_added : {N : Type 0} (count : N → ℕ) (nows : List (List Value)) (Is : N → Type 0) (room after : ℕ) (n : N) → list_cells (nodes F) olds + before + room ≡ limit
-      → MakesEntry F olds nows (Is n) vs room → after ≡ before + count n → AddsEntry count F olds nows Is vs limit before after n
-  entry_added count nows Is room after n r m s = record {
+      → MakesEntry F olds nows (Is n) vs room → after ≡ before + count n → after ≤ MOST_ROWS → AddsEntry count F olds nows Is vs limit before after n
+  entry_added count nows Is room after n r m s t = record {
     is = m.is;
     grown = m.grown;
     cells = omega (arith, r, m.within, list_cells-grown (nodes F) olds nows (occurring F vs) m.grown);
     rows = s;
-    fits = omega (arith, r);
+    small = t;
   }

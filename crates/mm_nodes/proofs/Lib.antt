@@ -1,2 +1,6 @@
 pub mod RoomLemmas
 pub mod EntryLemmas
+pub mod StandsLemmas
+pub mod BuildLemmas
+pub mod WalkLemmas
+pub mod NodeLemmas

@@ -6,7 +6,7 @@ use Rattle.mm_logic.specs.Value.{Value}
 use Rattle.mm_logic.specs.Tree.{IsValid}
 use Rattle.mm_logic.specs.Occurrence.{nodes, occurring, distinct, list_cells, cells}
 use Rattle.mm_logic.specs.Growth.{root, missing_cells, AllGrown}
-use Rattle.mm_nodes.specs.declared.TheConstants.{MAX_LIMIT}
+use Rattle.mm_nodes.specs.declared.TheConstants.{MAX_LIMIT, MOST_ROWS}
 use Rattle.mm_nodes.specs.Demands.{IsExact, IsWithin}
 use Rattle.mm_states.specs.Letters as letters
 use Rattle.mm_states.specs.Calls.{IsRoomy}
@@ -61,7 +61,7 @@ pub record AddsEntry {N : Type 0} (count : N → ℕ) (F : Formula) (olds nows :
   pub grown : AllGrown olds nows (occurring F vs)
   pub cells : list_cells (nodes F) nows ≤ limit
   pub rows : after ≡ before + count n
-  pub fits : before ≤ limit
+  pub small : after ≤ MOST_ROWS
 
 abbrev pub Adds : {N : Type 0} → (N → ℕ) → Formula → (olds nows : List (List Value)) → (N → Type 0) → List Value → (limit before after : ℕ) → Result N KeepFault → Type 0
 Adds count F olds nows Is vs limit before after (Ok n) = AddsEntry count F olds nows Is vs limit before after n

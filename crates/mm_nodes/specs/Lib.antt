@@ -2,3 +2,4 @@ pub mod KeptTrees
 pub mod KeptNodes
 pub mod Demands
 pub mod Calls
+pub mod Walks

@@ -1,15 +1,18 @@
 //! Entries for all nodes of a tree.
 
-ghost use Rattle.std.specs.Prelude.{◌≡◌, ◌<◌, ◌≤◌, ◌+◌, ℕ};
+ghost use Rattle.std.specs.Prelude.{◌≡◌, ◌<◌, ◌≤◌, ◌+◌, ◌^◌, ℕ};
 ghost use Rattle.mm_logic.specs.Occurrence.{nodes as parts, list_cells};
 ghost use Rattle.mm_logic.specs.JoinRule.{all_pairs, join_type};
 ghost use Rattle.mm_logic_laws.specs.ValueLaws.{types_by_rules};
 ghost use Rattle.mm_states.specs.Letters as letters;
 ghost use Rattle.mm_tree.specs.NamedTree.{shape, nodes};
 ghost use Rattle.mm_tree.specs.Nodes.{named, named_leaf, field_of, IsOver};
-ghost use Rattle.mm_nodes.specs.declared.TheConstants.{MAX_LIMIT};
+ghost use Rattle.mm_nodes.specs.declared.TheConstants.{MAX_LIMIT, MOST_ROWS};
 ghost use Rattle.mm_nodes.specs.Demands.{Frame, IsExact};
+ghost use Rattle.mm_nodes.specs.KeptTrees.{top, count, row_sum};
+ghost use Rattle.mm_nodes.specs.KeptNodes.{tree_of, IsCounted};
 ghost use Rattle.mm_nodes.specs.Calls.{CanWalk, CanMakeLeaf, IsRoom, Adds};
+ghost use Rattle.mm_nodes.specs.Walks.{Joins, Builds};
 
 use crate::{Keeps, KeepFault, Kept};
 use mm_base::Steps;
@@ -23,7 +26,7 @@ use std::sync::ledger::Ledger;
 fn room<A: Automaton>(automaton: &A, limit: u64, rows: u64) -> Result<u64, KeepFault>
     requires cells { list_cells (parts (A.shape automaton.now)) (A.lists automaton.now) ≤ limit }
     requires limited { limit ≤ MAX_LIMIT }
-    requires rows { rows ≤ 8589934592 }
+    requires rows { rows ≤ MOST_ROWS }
     ensures { IsRoom (list_cells (parts (A.shape automaton.now)) (A.lists automaton.now) + rows) limit result }
 {
     let used = automaton.cells() + rows;
@@ -50,7 +53,7 @@ pub(crate) fn add_join<N: Keeps, A: Automaton, L: Ledger>(
     requires exact { IsExact (A.shape automaton.old) (A.lists automaton.old) }
     requires cells { list_cells (parts (A.shape automaton.old)) (A.lists automaton.old) ≤ limit }
     requires limited { limit ≤ MAX_LIMIT }
-    requires rows { rows.old ≤ 8589934592 }
+    requires rows { rows.old ≤ MOST_ROWS }
     ensures shape { A.shape automaton.new ≡ A.shape automaton.old }
     ensures field { A.field automaton.new ≡ A.field automaton.old }
     ensures marked { A.marked automaton.new ≡ A.marked automaton.old }
@@ -83,7 +86,7 @@ fn add_leaf<N: Keeps, A: Automaton, L: Ledger>(
     requires exact { IsExact (A.shape automaton.old) (A.lists automaton.old) }
     requires cells { list_cells (parts (A.shape automaton.old)) (A.lists automaton.old) ≤ limit }
     requires limited { limit ≤ MAX_LIMIT }
-    requires rows { rows.old ≤ 8589934592 }
+    requires rows { rows.old ≤ MOST_ROWS }
     ensures shape { A.shape automaton.new ≡ A.shape automaton.old }
     ensures field { A.field automaton.new ≡ A.field automaton.old }
     ensures marked { A.marked automaton.new ≡ A.marked automaton.old }
@@ -100,5 +103,77 @@ fn add_leaf<N: Keeps, A: Automaton, L: Ledger>(
             Ok(entry)
         }
         Err(fault) => Err(fault),
+    }
+}
+
+/// What is kept at a join of two parts.
+fn join_parts<N: Keeps, A: Automaton, L: Ledger>(
+    alloc: Global,
+    automaton: &mut A,
+    op: &Op,
+    left: Kept<N>,
+    right: Kept<N>,
+    limit: u64,
+    rows: &mut u64,
+    steps: &mut Steps<L>,
+) -> Result<Kept<N>, KeepFault>
+    requires over { letters.IsOver (A.shape automaton.old) (A.field automaton.old) op.now.f }
+    requires left { N.Fits (record { f = op.now.f; F = A.shape automaton.old; lists = A.lists automaton.old }) op.now.op.t1 (top (tree_of left)) }
+    requires right { N.Fits (record { f = op.now.f; F = A.shape automaton.old; lists = A.lists automaton.old }) op.now.op.t2 (top (tree_of right)) }
+    requires exact { IsExact (A.shape automaton.old) (A.lists automaton.old) }
+    requires cells { list_cells (parts (A.shape automaton.old)) (A.lists automaton.old) ≤ limit }
+    requires limited { limit ≤ MAX_LIMIT }
+    requires rows { rows.old ≤ MOST_ROWS }
+    requires counted_left { IsCounted N.rows left }
+    requires counted_right { IsCounted N.rows right }
+    requires few { count (tree_of left) + count (tree_of right) < 100000 }
+    requires small { row_sum N.rows (tree_of left) + row_sum N.rows (tree_of right) < 2 ^ 63 }
+    ensures shape { A.shape automaton.new ≡ A.shape automaton.old }
+    ensures field { A.field automaton.new ≡ A.field automaton.old }
+    ensures marked { A.marked automaton.new ≡ A.marked automaton.old }
+    ensures tick { steps.new ≤ steps.old + 1 }
+    ensures joins { Joins N.Keeps (A.shape automaton.old) (A.lists automaton.old) (A.lists automaton.new) op.now (tree_of left) (tree_of right) limit rows.old rows.new result }
+{
+    let Ok(left) = Box::new(alloc, left) else {
+        return Err(KeepFault::NoMemory);
+    };
+    let Ok(right) = Box::new(alloc, right) else {
+        return Err(KeepFault::NoMemory);
+    };
+    match add_join(alloc, automaton, op, left.entry(), right.entry(), limit, rows, steps) {
+        Ok(entry) => Ok(Kept::two(entry, left, right)),
+        Err(fault) => Err(fault),
+    }
+}
+
+/// Entries for all nodes below a node, the children first.
+pub(crate) fn build<N: Keeps, A: Automaton, L: Ledger>(
+    alloc: Global,
+    automaton: &mut A,
+    node: &Node,
+    limit: u64,
+    rows: &mut u64,
+    steps: &mut Steps<L>,
+) -> Result<Kept<N>, KeepFault>
+    requires can { CanWalk (A.shape automaton.old) (A.field automaton.old) (A.lists automaton.old) limit node.now }
+    requires rows { rows.old ≤ MOST_ROWS }
+    ensures shape { A.shape automaton.new ≡ A.shape automaton.old }
+    ensures field { A.field automaton.new ≡ A.field automaton.old }
+    ensures marked { A.marked automaton.new ≡ A.marked automaton.old }
+    ensures ticks { steps.new ≤ steps.old + nodes (named node.now) }
+    ensures builds { Builds N.Keeps (A.shape automaton.old) (A.lists automaton.old) (A.lists automaton.new) (field_of node.now) (named node.now) limit rows.old rows.new result }
+{
+    match node {
+        Node::Leaf(leaf) => match add_leaf(alloc, automaton, leaf, limit, rows, steps) {
+            Ok(entry) => Ok(Kept::One(entry)),
+            Err(fault) => Err(fault),
+        },
+        Node::Join(_, op, left, right) => match build(alloc, automaton, left, limit, rows, steps) {
+            Ok(first) => match build(alloc, automaton, right, limit, rows, steps) {
+                Ok(second) => join_parts(alloc, automaton, op, first, second, limit, rows, steps),
+                Err(fault) => Err(fault),
+            },
+            Err(fault) => Err(fault),
+        },
     }
 }
