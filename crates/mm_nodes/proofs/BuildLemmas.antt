@@ -66,15 +66,15 @@ module _ {N : Type 0} (K : Ghosts N) (laws : Laws K) (F : Formula) (op : OpValue
       (all_pairs-same (join_type op.f F op.op) (K.types (frame lists) (top a)) (types l) (K.types (frame lists) (top b)) (types r)
       (has K laws (frame lists) l a g).types (has K laws (frame lists) r b h).types)
 
-  left_within : IsWithin (made_at l) (made_at whole)
+  pub left_within : IsWithin (made_at l) (made_at whole)
   left_within = subst (λ vs. IsWithin (made_at l) vs) (sym (made-join K laws (frame []) name op.op l r))
       (within-then (made_at l) (made_at l ++ made_at r) (types whole ++ (made_at l ++ made_at r)) (within-left (made_at l) (made_at r)) (within-right (types whole) (made_at l ++ made_at r)))
 
-  right_within : IsWithin (made_at r) (made_at whole)
+  pub right_within : IsWithin (made_at r) (made_at whole)
   right_within = subst (λ vs. IsWithin (made_at r) vs) (sym (made-join K laws (frame []) name op.op l r))
       (within-then (made_at r) (made_at l ++ made_at r) (types whole ++ (made_at l ++ made_at r)) (within-right (made_at l) (made_at r)) (within-right (types whole) (made_at l ++ made_at r)))
 
-  own_within : IsWithin (types whole) (made_at whole)
+  pub own_within : IsWithin (types whole) (made_at whole)
   own_within = subst (λ vs. IsWithin (types whole) vs) (sym (made-join K laws (frame []) name op.op l r)) (within-left (types whole) (made_at l ++ made_at r))
 
   pub full_left : (olds : List (List Value)) (before limit : ℕ) → Exceeds F olds (made_at l) (before + rows_at l) limit → Exceeds F olds (made_at whole) (before + rows_at whole) limit

@@ -4,3 +4,5 @@ pub mod StandsLemmas
 pub mod BuildLemmas
 pub mod WalkLemmas
 pub mod NodeLemmas
+pub mod MadeLemmas
+pub mod RemakeLemmas

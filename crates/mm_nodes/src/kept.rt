@@ -24,6 +24,15 @@ pub enum Kept<N> {
     Two(Above<N>, Box<Kept<N>>, Box<Kept<N>>),
 }
 
+impl<N> Above<N> {
+    /// What is kept at the join.
+    pub(crate) fn entry(&self) -> &N
+        ensures { result.now ≡ self.now.entry }
+    {
+        &self.entry
+    }
+}
+
 impl<N: Keeps> Kept<N> {
     /// The entry of the root.
     pub fn entry(&self) -> &N

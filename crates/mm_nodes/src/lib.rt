@@ -4,6 +4,7 @@
 mod build;
 mod keeps;
 mod kept;
+mod remake;
 
 pub use keeps::{Keeps, KeepFault};
 pub use kept::Kept;
