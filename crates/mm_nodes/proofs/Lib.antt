@@ -6,3 +6,4 @@ pub mod WalkLemmas
 pub mod NodeLemmas
 pub mod MadeLemmas
 pub mod RemakeLemmas
+pub mod StepUpLemmas

@@ -41,6 +41,12 @@ module _ {N : Type 0} where
   path_more : (k : ℕ) (n : N) (a b : KeptTree N) → path_in (suc k) (Two n a b) ≡ (if nat_lt k (count a) then true ∷ path_in k a else false ∷ path_in (k - count a) b)
   path_more k n a b = refl
 
+  pub path_turns : (at : ℕ) (n : N) (a b : KeptTree N) → (at ≡ 0 → ⊥)
+      → path_in at (Two n a b) ≡ (if nat_lt (at - 1) (count a) then true ∷ path_in (at - 1) a else false ∷ path_in (at - 1 - count a) b)
+  path_turns at n a b z =
+      let e : at ≡ suc (at - 1) = omega (arith, z) in
+      ap (λ (k : ℕ). path_in k (Two n a b)) e ∙ path_more (at - 1) n a b
+
   pub path_to_left : (at : ℕ) (n : N) (a b : KeptTree N) → (at ≡ 0 → ⊥) → at - 1 < count a → path_in at (Two n a b) ≡ true ∷ path_in (at - 1) a
   path_to_left at n a b z l =
       let e : at ≡ suc (at - 1) = omega (arith, z) in

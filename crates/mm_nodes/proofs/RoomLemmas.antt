@@ -1,6 +1,7 @@
 -- Lists that are exact, and when their cells exceed a limit.
 use Rattle.std.proofs.Common.{rules, ◌≡◌, ◌<◌, ◌≤◌, ◌+◌, ℕ, Bool, true, false, not, ◌||◌, List, [], ◌∷◌, ◌++◌, map, length, filter, refl, sym, ap, ◌∙◌, subst, arith, All}
 use Rattle.std.specs.List.{list_any}
+use Rattle.std.proofs.lemmas.List.{length-map}
 use Rattle.std.proofs.lemmas.List.Folds.{list_any-append}
 use Rattle.mm_logic.specs.Formula.{Formula}
 use Rattle.mm_logic.specs.Formula.Formula.{Const, Ind, Member, SameElem, Sub, SameSet, Not, Bin, ExSet, AllSet, ExElem, AllElem}
@@ -9,7 +10,7 @@ use Rattle.mm_logic.specs.Order.{SameMembers}
 use Rattle.mm_logic.specs.Occurrence.{nodes, occurring, distinct, fresh, is_among, list_cells, cells}
 use Rattle.mm_logic.specs.Growth.{root, head_list, tail_lists, no_values, missing, missing_cells, Grown, AllGrown}
 use Rattle.mm_logic.proofs.OccurrenceLemmas.{nodes-occurring, filter_kept, distinct-append, same_flip, cells-none}
-use Rattle.mm_logic.proofs.GrowthLemmas.{members-bag, members-distinct, calls-then, list_cells-grown, occurring-same, AllGrown-same, missing-more, missing-calls, missing-same}
+use Rattle.mm_logic.proofs.GrowthLemmas.{members-bag, members-distinct, calls-then, list_cells-grown, occurring-same, AllGrown-same, missing-more, missing-calls, missing-same, AllGrown-none}
 use Rattle.mm_nodes.specs.Demands.{IsWithin, IsExact}
 use Rattle.mm_nodes.specs.Calls.{Exceeds}
 
@@ -140,3 +141,19 @@ pub exceeds_part : (F : Formula) (lists : List (List Value)) (vs ws : List Value
 exceeds_part F lists vs ws few many limit h le e all p q =
     let one = e all p (within-then vs ws all h q) in
     omega (arith, one, le)
+
+grown_length : (olds nows vss : List (List Value)) → AllGrown olds nows vss → length nows ≡ length olds
+grown_length olds nows [] g = ap length g
+grown_length (old ∷ olds) (now ∷ nows) (vs ∷ vss) g = let e = grown_length olds nows vss g.1 in omega (arith, e)
+grown_length [] nows (vs ∷ vss) g = absurd g
+grown_length (old ∷ olds) [] (vs ∷ vss) g = absurd g
+
+-- nothing is asked of exact lists
+pub exact_none : (F : Formula) (lists : List (List Value)) → IsExact F lists → AllGrown lists lists (occurring F [])
+exact_none F lists e =
+    let long = grown_length (no_values F) lists (occurring F (root F lists)) e in
+    let many = length-map (nodes F) (λ (G : Formula). no_value) in
+    AllGrown-none F lists (omega (arith, long, many))
+  where
+    no_value : List Value
+    no_value = []
