@@ -7,3 +7,4 @@ pub mod NodeLemmas
 pub mod MadeLemmas
 pub mod RemakeLemmas
 pub mod StepUpLemmas
+pub mod ExchangeLemmas

@@ -1,5 +1,5 @@
 -- What walks over the nodes of a tree make.
-use Rattle.std.specs.Prelude.{◌≡◌, ◌<◌, ◌≤◌, ℕ, zero, suc, ◌+◌, ◌*◌, Bool, true, false, List, [], ◌∷◌, ◌++◌, length, slice_index_or, Result, Ok, Err}
+use Rattle.std.specs.Prelude.{◌≡◌, ◌<◌, ◌≤◌, ℕ, zero, suc, ◌+◌, ◌*◌, Bool, true, false, List, [], ◌∷◌, ◌++◌, length, Option, Some, None, Result, Ok, Err}
 use Rattle.mm_field.specs.declared.Field.{Field}
 use Rattle.mm_logic.specs.Formula.{Formula}
 use Rattle.mm_logic.specs.Value.{Value}
@@ -109,3 +109,13 @@ StepsUp K F olds nows op a b old items later limit before after true (Ok changed
 StepsUp K F olds nows op a b old items later limit before after false (Ok changed) = StaysAbove K olds nows old items later before after changed
 StepsUp K F olds nows op a b old items later limit before after true (Err e) = e ≡ Full → Exceeds F olds (pair_types K F olds op a b) (before + length (distinct (pair_types K F olds op a b))) limit
 StepsUp K F olds nows op a b old items later limit before after false (Err e) = ⊥
+
+-- where an entry was taken, it is the last one of the deepest that were made; else none was made at this depth
+abbrev pub TakesLast : {N : Type 0} → (olds nows : List N) → ℕ → Option N → Type 0
+TakesLast olds nows depth (Some entry) = (olds ≡ nows ++ entry ∷ []) × (length olds ≡ depth)
+TakesLast olds nows depth None = (nows ≡ olds) × (length olds < depth)
+
+-- the entry, or the one before
+abbrev pub renewed : {N : Type 0} → Option N → N → N
+renewed (Some entry) old = entry
+renewed None old = old

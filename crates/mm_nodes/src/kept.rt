@@ -10,9 +10,9 @@ use crate::Keeps;
 /// What is kept at a join, and the sums over the nodes of its subtree.
 #[derive(Drop)]
 pub struct Above<N> {
-    entry: N,
-    nodes: u32,
-    rows: u64,
+    pub(crate) entry: N,
+    pub(crate) nodes: u32,
+    pub(crate) rows: u64,
 }
 
 /// What is kept at the nodes of a tree, in the shape of the tree.

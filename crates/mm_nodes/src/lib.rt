@@ -2,6 +2,7 @@
 #![tactic(auto)]
 
 mod build;
+mod exchange;
 mod keeps;
 mod kept;
 mod remake;
