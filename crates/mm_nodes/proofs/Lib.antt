@@ -8,3 +8,4 @@ pub mod MadeLemmas
 pub mod RemakeLemmas
 pub mod StepUpLemmas
 pub mod ExchangeLemmas
+pub mod KeptTypeLemmas

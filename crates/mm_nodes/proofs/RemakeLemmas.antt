@@ -59,6 +59,12 @@ module _ {N : Type 0} where
       ap (λ (k : ℕ). path_in k (Two n a b)) e ∙ path_more (at - 1) n a b
       ∙ ap (λ (x : Bool). if x then true ∷ path_in (at - 1) a else false ∷ path_in (at - 1 - count a) b) (le-ltb (at - 1) (count a) l)
 
+  pub way_left : (at : ℕ) (R : KeptTree N) (n : N) (a b : KeptTree N) → R ≡ Two n a b → (at ≡ 0 → ⊥) → at - 1 < count a → (down : ℕ) → down ≡ at - 1 → path_in at R ≡ true ∷ path_in down a
+  way_left at R n a b kept z turn down lower = ap (path_in at) kept ∙ path_to_left at n a b z turn ∙ ap (λ k. true ∷ path_in k a) (sym lower)
+
+  pub way_right : (at : ℕ) (R : KeptTree N) (n : N) (a b : KeptTree N) → R ≡ Two n a b → (at ≡ 0 → ⊥) → count a ≤ at - 1 → (down : ℕ) → down ≡ at - 1 - count a → path_in at R ≡ false ∷ path_in down b
+  way_right at R n a b kept z turn down lower = ap (path_in at) kept ∙ path_to_right at n a b z turn ∙ ap (λ k. false ∷ path_in k b) (sym lower)
+
 -- ---- the entry that was made last is that of the root
 
 module _ {N : Type 0} (K : Ghosts N) (fr : Frame) where

@@ -1,5 +1,5 @@
 -- A join and its children as nodes: what a walk below a join needs.
-use Rattle.std.proofs.Common.{rules, ◌≡◌, ◌<◌, ◌≤◌, ◌+◌, ℕ, List, refl, sym, ap, ◌∙◌, subst, arith}
+use Rattle.std.proofs.Common.{rules, ◌≡◌, ◌<◌, ◌≤◌, ◌+◌, ℕ, List, [], ◌∷◌, Option, Some, None, refl, sym, ap, ◌∙◌, subst, arith}
 use Rattle.std.proofs.Common.{Box, Global}
 use Rattle.mm_field.specs.declared.Field.{Field}
 use Rattle.mm_logic.specs.Formula.{Formula}
@@ -10,7 +10,9 @@ use Rattle.mm_states.specs.Letters as letters
 use Rattle.mm_tree.specs.NamedTree.{Tree, nodes, shape, boundary}
 use Rattle.mm_tree.specs.NamedTree.Tree.{Join}
 use Rattle.mm_tree.specs.Nodes.{named, named_leaf, field_of, IsOver}
+use Rattle.mm_tree.specs.Paths.{Path, node_at}
 use Rattle.mm_tree.specs.ValidTree.{IsValidTree}
+use Rattle.mm_tree.specs.declared.node.Item.{Item}
 use Rattle.mm_tree.specs.declared.node.Leaf.{Leaf}
 use Rattle.mm_tree.specs.declared.node.Node.{Node}
 use Rattle.mm_tree.specs.declared.node.Node.TheViews as views
@@ -135,3 +137,19 @@ can_make F g lists limit node leaf e c =
 
 pub one_node : (node : Node) (leaf : Leaf) → node ≡ nodes_of.Leaf leaf → nodes (named node) ≡ 1
 one_node node leaf e = ap nodes (meets_leaf node leaf e).tree ∙ leaf_nodes leaf
+
+pub child_over : (d e : Node) (f : Field) → d ≡ e → IsOver f e → IsOver (field_of d) d
+child_over d e f i o = subst (λ (x : Node). IsOver (field_of x) x) (sym i) (subst (λ (g : Field). IsOver g e) (sym (over_field f e o)) o)
+
+pub child_valid : (d e : Node) (f : Field) → d ≡ e → IsOver f e → IsValidTree f (named e) → IsValidTree (field_of d) (named d)
+child_valid d e f i o v = subst (λ (x : Node). IsValidTree (field_of x) (named x)) (sym i) (subst (λ (g : Field). IsValidTree g (named e)) (sym (over_field f e o)) v)
+
+pub leaf_node : (node : Node) (leaf : Leaf) (path : Path) → MeetsLeaf node leaf → named node ≡ node_at (named node) path
+unfolding node_at
+leaf_node node leaf path m = subst (λ (T : Tree). T ≡ node_at T path) (sym m.tree) (by_item leaf.item path)
+  where
+    by_item : (item : Option Item) (path : Path) → named_leaf (record leaf { item = item }) ≡ node_at (named_leaf (record leaf { item = item })) path
+    by_item None [] = refl
+    by_item None (step ∷ path) = refl
+    by_item (Some i) [] = refl
+    by_item (Some i) (step ∷ path) = refl

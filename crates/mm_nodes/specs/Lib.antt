@@ -3,3 +3,4 @@ pub mod KeptNodes
 pub mod Demands
 pub mod Calls
 pub mod Walks
+pub mod Changes

@@ -2,6 +2,7 @@
 #![tactic(auto)]
 
 mod build;
+mod change;
 mod exchange;
 mod keeps;
 mod kept;
