@@ -9,3 +9,4 @@ pub mod RemakeLemmas
 pub mod StepUpLemmas
 pub mod ExchangeLemmas
 pub mod KeptTypeLemmas
+pub mod ChangeLemmas

@@ -1,13 +1,16 @@
 //! A part made anew, with the entries above it.
 
-ghost use Rattle.std.specs.Prelude.{◌≡◌, ◌<◌, ◌≤◌, ◌+◌, ◌^◌, ℕ, length};
-ghost use Rattle.mm_tree.specs.NamedTree.{nodes};
+ghost use Rattle.std.specs.Prelude.{◌≡◌, ◌<◌, ◌≤◌, ◌+◌, ◌^◌, ℕ, length, IfOk};
+ghost use Rattle.mm_tree.specs.NamedTree.{nodes, shape};
 ghost use Rattle.mm_tree.specs.Nodes.{named, field_of, IsOver};
 ghost use Rattle.mm_tree.specs.Paths.{node_at};
 ghost use Rattle.mm_tree.specs.ValidTree.{IsValidTree};
 ghost use Rattle.mm_nodes.specs.KeptTrees.{count, path_in, row_sum, StandsBeside};
 ghost use Rattle.mm_nodes.specs.KeptNodes.{tree_of, IsCounted};
+ghost use Rattle.mm_nodes.specs.declared.TheConstants.{MOST_ROWS};
+ghost use Rattle.mm_nodes.specs.Demands.{Frame, made_rows};
 ghost use Rattle.mm_nodes.specs.Calls.{CanWalk};
+ghost use Rattle.mm_nodes.specs.Walks.{CanRemake, path_rows};
 ghost use Rattle.mm_nodes.specs.Changes.{Changes};
 
 use crate::build::build;
@@ -50,5 +53,71 @@ fn part_at<'a, N: Keeps>(node: &'a Node, kept: &Kept<N>, at: u32) -> &'a Node
                 }
             }
         },
+    }
+}
+
+/// The entries above a new part, where they fit the limit beside `rows` and what the automaton has.
+fn remake_above<N: Keeps, A: Automaton, L: Ledger>(
+    alloc: Global,
+    automaton: &mut A,
+    kept: &Kept<N>,
+    node: &Node,
+    at: u32,
+    part: Kept<N>,
+    limit: u64,
+    rows: u64,
+    steps: &mut Steps<L>,
+) -> Result<Change<N>, KeepFault>
+    requires can { CanWalk (A.shape automaton.old) (A.field automaton.old) (A.lists automaton.old) limit node.now }
+    requires parts { CanRemake N.Keeps (A.shape automaton.old) (A.lists automaton.old) (field_of node.now) (named node.now) (tree_of kept.now) (tree_of part) (path_in at (tree_of kept.now)) }
+    requires counted { IsCounted N.rows kept.now }
+    requires counted_part { IsCounted N.rows part }
+    requires within { at < count (tree_of kept.now) }
+    requires rows { rows ≤ MOST_ROWS }
+    ensures shape { A.shape automaton.new ≡ A.shape automaton.old }
+    ensures field { A.field automaton.new ≡ A.field automaton.old }
+    ensures marked { A.marked automaton.new ≡ A.marked automaton.old }
+    ensures ticks { steps.new ≤ steps.old + length (path_in at (tree_of kept.now)) }
+    ensures part { IfOk result (λ change. change.part ≡ part) }
+    ensures changes { Changes N.Keeps (A.shape automaton.old) (A.lists automaton.old) (A.lists automaton.new) (field_of node.now) (named node.now) (tree_of kept.now) (path_in at (tree_of kept.now)) limit (rows + path_rows (field_of node.now) (N.query (A.shape automaton.old)) (path_in at (tree_of kept.now)) (named node.now)) result }
+{
+    let mut made = Vec::new(alloc);
+    let mut all = rows;
+    match remake(alloc, automaton, node, kept, at, &part, &mut made, limit, &mut all, steps) {
+        Ok(_) => {
+            if automaton.cells() + all > limit {
+                return Err(KeepFault::Full);
+            }
+            Ok(Change { part, made })
+        }
+        Err(fault) => Err(fault),
+    }
+}
+
+/// A new part at number `at` for the nodes of a tree there, and the entries above it, where they fit the limit beside the rows that stay.
+pub(crate) fn remake_part<N: Keeps, A: Automaton, L: Ledger>(
+    alloc: Global,
+    automaton: &mut A,
+    kept: &Kept<N>,
+    node: &Node,
+    at: u32,
+    limit: u64,
+    steps: &mut Steps<L>,
+) -> Result<Change<N>, KeepFault>
+    requires can { CanWalk (A.shape automaton.old) (A.field automaton.old) (A.lists automaton.old) limit node.now }
+    requires beside { StandsBeside (N.IsLeaf (record { f = field_of node.now; F = A.shape automaton.old; lists = A.lists automaton.old })) (N.IsJoin (record { f = field_of node.now; F = A.shape automaton.old; lists = A.lists automaton.old })) (path_in at (tree_of kept.now)) (named node.now) (tree_of kept.now) }
+    requires counted { IsCounted N.rows kept.now }
+    requires within { at < count (tree_of kept.now) }
+    requires rows { row_sum N.rows (tree_of kept.now) ≤ MOST_ROWS }
+    ensures shape { A.shape automaton.new ≡ A.shape automaton.old }
+    ensures field { A.field automaton.new ≡ A.field automaton.old }
+    ensures marked { A.marked automaton.new ≡ A.marked automaton.old }
+    ensures ticks { steps.new ≤ steps.old + nodes (node_at (named node.now) (path_in at (tree_of kept.now))) + length (path_in at (tree_of kept.now)) }
+    ensures changes { Changes N.Keeps (A.shape automaton.old) (A.lists automaton.old) (A.lists automaton.new) (field_of node.now) (named node.now) (tree_of kept.now) (path_in at (tree_of kept.now)) limit (made_rows (field_of node.now) (N.query (A.shape automaton.old)) (shape (named node.now))) result }
+{
+    let mut rows = rows_beside(kept, at);
+    match build(alloc, automaton, part_at(node, kept, at), limit, &mut rows, steps) {
+        Ok(part) => remake_above(alloc, automaton, kept, node, at, part, limit, rows, steps),
+        Err(fault) => Err(fault),
     }
 }
