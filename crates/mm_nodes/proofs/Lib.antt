@@ -10,3 +10,4 @@ pub mod StepUpLemmas
 pub mod ExchangeLemmas
 pub mod KeptTypeLemmas
 pub mod ChangeLemmas
+pub mod TreeKeptLemmas

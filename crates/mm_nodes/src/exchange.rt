@@ -23,7 +23,7 @@ fn take_last<N: Keeps>(made: &mut Vec<N>, depth: u32) -> Option<N>
 
 /// How many nodes and rows a part has.
 #[derive(Clone, Copy)]
-struct Sums {
+pub(crate) struct Sums {
     nodes: u32,
     rows: u64,
 }
@@ -66,7 +66,7 @@ impl<N: Keeps> Above<N> {
 
 /// Puts a part at number `at`, which is `depth` steps below, and the entries that were made above it; gives the sums over all nodes. No
 /// memory.
-fn exchange<N: Keeps>(
+pub(crate) fn exchange<N: Keeps>(
     kept: &mut Kept<N>,
     at: u32,
     depth: u32,

@@ -6,10 +6,12 @@ mod change;
 mod exchange;
 mod keeps;
 mod kept;
+mod redo_tree;
 mod remake;
 
 pub use keeps::{Keeps, KeepFault};
 pub use kept::Kept;
+pub use redo_tree::{of, redo};
 
 /// The greatest limit on state sizes.
 const MAX_LIMIT: u64 = 4_194_304;
