@@ -22,6 +22,7 @@ use Rattle.mm_nodes.specs.Demands.{Frame, IsExact, IsWithin, made, made_rows}
 use Rattle.mm_nodes.specs.Calls.{CanWalk, Exceeds}
 use Rattle.mm_nodes.specs.Walks.{path_rows, CanRemake, RemakesPath, BuildsTree}
 use Rattle.mm_nodes.specs.Changes.{ChangesKept, Changes}
+use Rattle.mm_nodes.specs.declared.TheConstants.{MAX_LIMIT}
 use Rattle.mm_nodes.specs.declared.kept.Kept.{Kept}
 use Rattle.mm_nodes.specs.declared.change.Change.{Change}
 use Rattle.mm_nodes.specs.declared.keeps.Keeps.{Ghosts}
@@ -33,7 +34,7 @@ use Rattle.mm_nodes.proofs.StandsLemmas.{Laws, stands-rows, made_rows-join, made
 within_itself : (vs : List Value) → IsWithin vs vs
 within_itself vs p e = e
 
-within_nothing : (vs : List Value) → IsWithin [] vs
+pub within_nothing : (vs : List Value) → IsWithin [] vs
 within_nothing vs p e = cc
 
 module _ {N : Type 0} (K : Ghosts N) (laws : Laws K) (fr : Frame) where
@@ -153,3 +154,20 @@ module _ (F F1 : Formula) (g g1 : Field) (lists nows : List (List Value)) (limit
         cells = c.cells;
         limited = c.limited;
       }
+
+-- a walk can go from the root of a valid tree
+pub root_walks : (F : Formula) (g : Field) (lists : List (List Value)) (limit : ℕ) (node : Node) (f : Field) (T : Tree) → named node ≡ T → IsOver f node → IsValidTree f T → letters.IsOver F g f → IsExact F lists
+    → list_cells (parts F) lists ≤ limit → limit ≤ MAX_LIMIT → CanWalk F g lists limit node
+root_walks F g lists limit node f T tree over valid field exact cells limited =
+    let same = sym (over_field f node over) in
+    record {
+      over = subst (λ (h : Field). IsOver h node) same over;
+      valid = subst (λ (h : Field). IsValidTree h (named node)) same (subst (IsValidTree f) (sym tree) valid);
+      field = subst (λ (h : Field). letters.IsOver F g h) same field;
+      exact = exact;
+      cells = cells;
+      limited = limited;
+    }
+
+pub as_root : (P : Field → Tree → Type 0) (f g : Field) (T U : Tree) → f ≡ g → T ≡ U → P f T → P g U
+as_root P f g T U a b x = subst (λ (o : Tree). P g o) b (subst (λ (o : Field). P o T) a x)

@@ -57,8 +57,12 @@ module _ {N : Type 0} (K : Ghosts N) (laws : Laws K) (F : Formula) (olds nows ma
         settled = record { exact = later; mark = same; sums = sums; within = omega (arith, rows, fits); limited = limited };
       }
 
-  pub tree_full : Exceeds F olds types (made_rows f (K.query F) (shape T)) limit → IsFull F (K.query F) (root F olds) f T limit
-  tree_full e = e (root F olds ++ types) (within-left (root F olds) types) (within-right (root F olds) types)
+-- what exceeds the limit with all types exceeds it with those before and those of the tree
+pub too_full : {N : Type 0} (K : Ghosts N) (F : Formula) (olds : List (List Value)) (f : Field) (T : Tree) (limit : ℕ)
+    → Exceeds F olds (made f (K.query F) (shape T)) (made_rows f (K.query F) (shape T)) limit → IsFull F (K.query F) (root F olds) f T limit
+too_full K F olds f T limit e =
+    let types = made f (K.query F) (shape T) in
+    e (root F olds ++ types) (within-left (root F olds) types) (within-right (root F olds) types)
 
 -- ---- the way of a number in what is kept is that in the tree
 
