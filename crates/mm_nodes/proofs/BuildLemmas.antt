@@ -1,29 +1,27 @@
 -- A tree built from its two parts.
-use Rattle.std.proofs.Common.{rules, ◌≡◌, ◌<◌, ◌≤◌, ◌+◌, ℕ, Bool, true, false, ◌||◌, List, [], ◌∷◌, ◌++◌, length, refl, sym, ap, ◌∙◌, subst, arith}
+use Rattle.std.proofs.Common.{◌≡◌, ◌+◌, ℕ, Bool, true, false, ◌||◌, List, [], ◌++◌, length, refl, sym, ap, ◌∙◌, subst, arith}
 use Rattle.std.specs.List.{list_any}
 use Rattle.std.proofs.lemmas.List.Folds.{list_any-append}
-use Rattle.mm_field.specs.declared.Field.{Field}
 use Rattle.mm_logic.specs.Formula.{Formula}
 use Rattle.mm_logic.specs.Value.{Value}
 use Rattle.mm_logic.specs.Order.{SameMembers}
-use Rattle.mm_logic.specs.Occurrence.{nodes as parts, occurring, distinct, list_cells}
-use Rattle.mm_logic.specs.Growth.{AllBegin, AllGrown}
+use Rattle.mm_logic.specs.Occurrence.{occurring, distinct}
+use Rattle.mm_logic.specs.Growth.{AllGrown}
 use Rattle.mm_logic.specs.JoinRule.{all_pairs, join_type}
 use Rattle.mm_logic.proofs.GrowthLemmas.{calls-then, AllGrown-same, occurring-same, AllBegin-grown}
 use Rattle.mm_logic_laws.specs.ValueLaws.{types_by_rules}
 use Rattle.mm_ops.specs.OpValue.{OpValue}
 use Rattle.mm_tree.specs.NamedTree.{Tree, shape}
-use Rattle.mm_tree.specs.NamedTree.Tree.{Elem, Void, Join}
-use Rattle.mm_nodes.specs.KeptTrees.{KeptTree, top, count, row_sum, StandsFor}
-use Rattle.mm_nodes.specs.KeptTrees.KeptTree.{One, Two}
+use Rattle.mm_tree.specs.NamedTree.Tree.{Join}
+use Rattle.mm_nodes.specs.KeptTrees.{KeptTree, top, row_sum, StandsFor}
 use Rattle.mm_nodes.specs.KeptNodes.{tree_of}
-use Rattle.mm_nodes.specs.Demands.{Frame, HasTypes, IsWithin, made, made_rows}
+use Rattle.mm_nodes.specs.Demands.{Frame, IsWithin, made, made_rows}
 use Rattle.mm_nodes.specs.Calls.{Exceeds}
 use Rattle.mm_nodes.specs.Walks.{pair_types, BuildsTree, JoinsParts}
 use Rattle.mm_nodes.specs.declared.kept.Kept.{Kept}
 use Rattle.mm_nodes.specs.declared.keeps.Keeps.{Ghosts}
 use Rattle.mm_nodes.proofs.RoomLemmas.{within-append, within-left, within-right, within-then, within-same, exceeds_part, exceeds_later}
-use Rattle.mm_nodes.proofs.StandsLemmas.{Laws, Stands, has, given, joined_has, made-join, made_rows-join, stands-stays, stands-rows, as_many, all_pairs-same, same-then}
+use Rattle.mm_nodes.proofs.StandsLemmas.{Laws, Stands, has, made-join, made_rows-join, stands-stays, stands-rows, as_many, all_pairs-same, same-then}
 
 or_turn : (a b : Bool) → (a || b) ≡ (b || a)
 or_turn true b = or_true b

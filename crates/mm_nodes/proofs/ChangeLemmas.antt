@@ -1,13 +1,12 @@
 -- A part made anew and the entries above it: rows, room and growth of the whole.
-use Rattle.std.proofs.Common.{rules, ◌≡◌, ◌<◌, ◌≤◌, ◌+◌, ℕ, Bool, true, false, List, [], ◌∷◌, ◌++◌, length, Result, Ok, Err, refl, sym, ap, ◌∙◌, subst, arith}
+use Rattle.std.proofs.Common.{◌≡◌, ◌<◌, ◌≤◌, ◌+◌, ℕ, Bool, true, false, List, [], ◌∷◌, ◌++◌, Result, Ok, Err, sym, ap, subst, arith}
 use Rattle.mm_field.specs.declared.Field.{Field}
 use Rattle.mm_logic.specs.Formula.{Formula}
 use Rattle.mm_logic.specs.Value.{Value}
 use Rattle.mm_logic.specs.Occurrence.{nodes as parts, occurring, list_cells}
-use Rattle.mm_logic.specs.Growth.{AllBegin, AllGrown, missing_cells}
 use Rattle.mm_logic.proofs.GrowthLemmas.{calls-then, AllBegin-grown, none_missing_cells}
 use Rattle.mm_states.specs.Letters as letters
-use Rattle.mm_tree.specs.NamedTree.{Tree, shape, nodes}
+use Rattle.mm_tree.specs.NamedTree.{Tree, shape}
 use Rattle.mm_tree.specs.NamedTree.Tree.{Elem, Void, Join}
 use Rattle.mm_tree.specs.Nodes.{named, field_of, IsOver}
 use Rattle.mm_tree.specs.Paths.{Path, node_at}
@@ -15,19 +14,18 @@ use Rattle.mm_tree.specs.ValidTree.{IsValidTree}
 use Rattle.mm_tree.specs.declared.node.Node.{Node}
 use Rattle.mm_tree.proofs.TreeLemmas.{valid_part, over_field}
 use Rattle.mm_tree.proofs.StepLemmas.{node_root, node_left, node_right}
-use Rattle.mm_nodes.specs.KeptTrees.{KeptTree, top, count, row_sum, rows_beside, remade, StandsFor, StandsBeside}
+use Rattle.mm_nodes.specs.KeptTrees.{KeptTree, rows_beside, StandsBeside}
 use Rattle.mm_nodes.specs.KeptTrees.KeptTree.{One, Two}
 use Rattle.mm_nodes.specs.KeptNodes.{tree_of}
 use Rattle.mm_nodes.specs.Demands.{Frame, IsExact, IsWithin, made, made_rows}
 use Rattle.mm_nodes.specs.Calls.{CanWalk, Exceeds}
 use Rattle.mm_nodes.specs.Walks.{path_rows, CanRemake, RemakesPath, BuildsTree}
-use Rattle.mm_nodes.specs.Changes.{ChangesKept, Changes}
+use Rattle.mm_nodes.specs.Changes.{Changes}
 use Rattle.mm_nodes.specs.declared.TheConstants.{MAX_LIMIT}
 use Rattle.mm_nodes.specs.declared.kept.Kept.{Kept}
 use Rattle.mm_nodes.specs.declared.change.Change.{Change}
 use Rattle.mm_nodes.specs.declared.keeps.Keeps.{Ghosts}
 use Rattle.mm_nodes.specs.declared.keeps.KeepFault.{KeepFault}
-use Rattle.mm_nodes.specs.declared.keeps.KeepFault.TheVariants.{Full}
 use Rattle.mm_nodes.proofs.RoomLemmas.{exact-then, exceeds_call, exceeds_part, exceeds_later, within-append, within-then, within-left, within-right}
 use Rattle.mm_nodes.proofs.StandsLemmas.{Laws, stands-rows, made_rows-join, made-join, beside-stays}
 

@@ -1,12 +1,12 @@
 -- One entry made and counted.
-use Rattle.std.proofs.Common.{◌≡◌, ◌<◌, ◌≤◌, ◌+◌, ℕ, List, length, Ok, Err, refl, sym, ap, ◌∙◌, subst, arith}
+use Rattle.std.proofs.Common.{◌≡◌, ◌<◌, ◌≤◌, ◌+◌, ℕ, List, length, Err, arith}
 use Rattle.mm_logic.specs.Formula.{Formula}
 use Rattle.mm_logic.specs.Value.{Value}
-use Rattle.mm_logic.specs.Occurrence.{nodes, occurring, distinct, list_cells, cells}
-use Rattle.mm_logic.specs.Growth.{root, missing_cells, AllGrown}
+use Rattle.mm_logic.specs.Occurrence.{nodes, occurring, distinct, list_cells}
+use Rattle.mm_logic.specs.Growth.{missing_cells}
 use Rattle.mm_logic.proofs.GrowthLemmas.{list_cells-grown}
 use Rattle.mm_nodes.specs.declared.TheConstants.{MOST_ROWS}
-use Rattle.mm_nodes.specs.Demands.{IsWithin, IsExact}
+use Rattle.mm_nodes.specs.Demands.{IsExact}
 use Rattle.mm_nodes.specs.Calls.{Exceeds, IsRoom, AddsEntry, MakesEntry}
 use Rattle.mm_nodes.specs.declared.keeps.KeepFault.{KeepFault}
 use Rattle.mm_nodes.specs.declared.keeps.KeepFault.TheVariants.{Full}

@@ -1,8 +1,8 @@
 -- The exchange of a part, from the root downwards.
-use Rattle.std.proofs.Common.{rules, ◌≡◌, ◌<◌, ◌≤◌, ◌+◌, ◌-◌, ℕ, Bool, true, false, List, [], ◌∷◌, ◌++◌, length, slice_index_or, Option, Some, None, refl, sym, ap, ◌∙◌, subst, arith, length-append}
+use Rattle.std.proofs.Common.{◌≡◌, ◌<◌, ◌≤◌, ◌+◌, ◌-◌, ℕ, true, false, List, [], ◌∷◌, length, slice_index_or, Option, Some, None, sym, ap, ◌∙◌, arith, length-append}
 use Rattle.mm_tree.specs.Paths.{Path}
-use Rattle.mm_nodes.specs.KeptTrees.{KeptTree, top, count, row_sum, path_in, remade}
-use Rattle.mm_nodes.specs.KeptTrees.KeptTree.{One, Two}
+use Rattle.mm_nodes.specs.KeptTrees.{KeptTree, count, path_in, remade}
+use Rattle.mm_nodes.specs.KeptTrees.KeptTree.{Two}
 use Rattle.mm_nodes.specs.Walks.{TakesLast, renewed}
 use Rattle.mm_nodes.proofs.MadeLemmas.{get-at, get-after, remade-front}
 use Rattle.mm_nodes.proofs.RemakeLemmas.{path_to_left, path_to_right}

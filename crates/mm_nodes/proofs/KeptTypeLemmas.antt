@@ -1,12 +1,11 @@
 -- What a list has grown by, where some of it was there.
-use Rattle.std.proofs.Common.{rules, ◌≡◌, ◌+◌, ℕ, Bool, true, false, not, ◌||◌, List, [], ◌∷◌, ◌++◌, filter, sum_by, cond, refl, sym, ap, ◌∙◌, subst, arith, append_assoc, append-nil}
+use Rattle.std.proofs.Common.{◌≡◌, Bool, true, false, not, ◌||◌, List, [], ◌∷◌, ◌++◌, filter, sum_by, cond, refl, sym, ap, ◌∙◌, append_assoc, append-nil}
 use Rattle.std.specs.List.{list_any}
 use Rattle.std.specs.Ordering.{is_eq, ordering_reverse}
 use Rattle.std.specs.declared.cmp.Ordering.{Ordering}
 use Rattle.std.specs.declared.cmp.Ordering.TheVariants.{Less, Equal, Greater}
 use Rattle.std.proofs.lemmas.List.Folds.{list_any-append}
 use Rattle.mm_logic.specs.Value.{Value, value_cmp}
-use Rattle.mm_logic.specs.Order.{SameMembers}
 use Rattle.mm_logic.specs.Occurrence.{same, is_among, distinct, fresh}
 use Rattle.mm_logic.specs.Growth.{Grown}
 use Rattle.mm_logic.proofs.ValueLemmas.{value_total}
@@ -33,7 +32,7 @@ each_among us [] = refl
 each_among us (v ∷ vs) =
     let here : is_among (us ++ v ∷ vs) v ≡ true = list_any-append (same v) us (v ∷ vs) ∙ or_here (list_any (same v) us) (same v v) (list_any (same v) vs) (same_self v) in
     let rest : list_any (λ w. not (is_among (us ++ v ∷ vs) w)) vs ≡ false =
-        ap (λ ws. list_any (λ w. not (is_among ws w)) vs) (sym (append_assoc us (v ∷ []) vs)) ∙ each_among (us ++ v ∷ []) vs in
+    ap (λ ws. list_any (λ w. not (is_among ws w)) vs) (sym (append_assoc us (v ∷ []) vs)) ∙ each_among (us ++ v ∷ []) vs in
     (λ i. not (here i) || rest i)
 
 any_kept : (p : Value → Bool) (xs : List Value) → list_any (λ v. true) (filter p xs) ≡ list_any p xs

@@ -1,7 +1,7 @@
 -- Entries that were made on a way to the root, the lowest first.
-use Rattle.std.proofs.Common.{rules, ◌≡◌, ◌<◌, ◌≤◌, ◌+◌, ◌-◌, ℕ, zero, suc, Bool, true, false, List, [], ◌∷◌, ◌++◌, length, get_or, slice_index_or, refl, sym, ap, ◌∙◌, subst, arith, length-append}
+use Rattle.std.proofs.Common.{◌≡◌, ◌<◌, ◌≤◌, ◌+◌, ℕ, zero, suc, true, false, List, [], ◌∷◌, ◌++◌, length, get_or, slice_index_or, refl, arith}
 use Rattle.mm_tree.specs.Paths.{Path}
-use Rattle.mm_nodes.specs.KeptTrees.{KeptTree, top, remade}
+use Rattle.mm_nodes.specs.KeptTrees.{KeptTree, remade}
 use Rattle.mm_nodes.specs.KeptTrees.KeptTree.{One, Two}
 use Rattle.mm_nodes.specs.Walks.{highest}
 

@@ -1,5 +1,5 @@
 -- A join's node built from its two children, as the walk meets them.
-use Rattle.std.proofs.Common.{rules, ◌≡◌, ◌<◌, ◌≤◌, ◌+◌, ℕ, List, length, Result, Ok, Err, Option, Some, None, refl, sym, ap, ◌∙◌, subst, arith}
+use Rattle.std.proofs.Common.{◌≡◌, ◌<◌, ◌≤◌, ◌+◌, ℕ, List, length, Result, Ok, Err, Option, Some, None, sym, subst, arith}
 use Rattle.mm_field.specs.declared.Field.{Field}
 use Rattle.mm_logic.specs.Formula.{Formula}
 use Rattle.mm_logic.specs.Value.{Value}
@@ -7,24 +7,22 @@ use Rattle.mm_logic.specs.Occurrence.{nodes as parts, occurring, list_cells, dis
 use Rattle.mm_logic.specs.Growth.{AllGrown}
 use Rattle.mm_logic_laws.specs.ValueLaws.{types_by_rules}
 use Rattle.mm_ops.specs.OpValue.{OpValue}
-use Rattle.mm_tree.specs.NamedTree.{Tree, shape, nodes, boundary}
-use Rattle.mm_tree.specs.NamedTree.Tree.{Elem, Void, Join}
+use Rattle.mm_tree.specs.NamedTree.{Tree, shape}
 use Rattle.mm_tree.specs.Nodes.{named, named_leaf, field_of}
 use Rattle.mm_tree.specs.declared.node.Item.{Item}
 use Rattle.mm_tree.specs.declared.node.Leaf.{Leaf}
 use Rattle.mm_tree.specs.declared.node.Node.{Node}
 use Rattle.mm_tree.proofs.TreeLemmas.{valid_left, valid_right}
-use Rattle.mm_nodes.specs.KeptTrees.{KeptTree, top, count, row_sum, StandsFor}
+use Rattle.mm_nodes.specs.KeptTrees.{top, count, StandsFor}
 use Rattle.mm_nodes.specs.KeptTrees.KeptTree.{One}
-use Rattle.mm_nodes.specs.KeptNodes.{tree_of, IsCounted}
+use Rattle.mm_nodes.specs.KeptNodes.{tree_of}
 use Rattle.mm_nodes.specs.Demands.{Frame, IsExact, made, made_rows}
 use Rattle.mm_nodes.specs.Calls.{Exceeds, AddsEntry}
-use Rattle.mm_nodes.specs.Walks.{BuildsTree, JoinsParts, Joins, Builds}
+use Rattle.mm_nodes.specs.Walks.{BuildsTree, Joins, Builds}
 use Rattle.mm_nodes.specs.declared.kept.Kept.{Kept}
 use Rattle.mm_nodes.specs.declared.kept.Kept as kepts
 use Rattle.mm_nodes.specs.declared.keeps.Keeps.{Ghosts}
 use Rattle.mm_nodes.specs.declared.keeps.KeepFault.{KeepFault}
-use Rattle.mm_nodes.specs.declared.keeps.KeepFault.TheVariants.{Full}
 use Rattle.mm_nodes.proofs.RoomLemmas.{exact-then}
 use Rattle.mm_nodes.proofs.StandsLemmas.{Laws, stands-count, IsAlone, elem_alone, void_alone}
 use Rattle.mm_nodes.proofs.BuildLemmas.{full_left, full_right, full_join, tree_built, left_stands}

@@ -1,5 +1,5 @@
 -- One step upwards above a part that was made anew.
-use Rattle.std.proofs.Common.{rules, ◌≡◌, ◌<◌, ◌≤◌, ◌+◌, ◌-◌, ◌*◌, ℕ, zero, suc, Bool, true, false, nat_lt, List, [], ◌∷◌, ◌++◌, length, get_or, slice_index_or, Result, Ok, Err, if◌then◌else◌, refl, sym, ap, ◌∙◌, subst, arith, length-append}
+use Rattle.std.proofs.Common.{◌≡◌, ◌<◌, ◌≤◌, ◌+◌, ◌-◌, ℕ, suc, Bool, true, false, nat_lt, List, [], ◌∷◌, ◌++◌, length, slice_index_or, if◌then◌else◌, refl, sym, ap, ◌∙◌, subst, arith, length-append}
 use Rattle.std.proofs.lemmas.Bool.{lt-ltb, le-ltb}
 use Rattle.mm_field.specs.declared.Field.{Field}
 use Rattle.mm_logic.specs.Formula.{Formula}
@@ -12,18 +12,16 @@ use Rattle.mm_logic_laws.specs.ValueLaws.{types_by_rules}
 use Rattle.mm_ops.specs.OpValue.{OpValue}
 use Rattle.mm_tree.specs.NamedTree.{Tree, shape, boundary}
 use Rattle.mm_tree.specs.NamedTree.Tree.{Elem, Void, Join}
-use Rattle.mm_tree.specs.Paths.{Path, node_at}
+use Rattle.mm_tree.specs.Paths.{Path}
 use Rattle.mm_tree.specs.ValidTree.{IsValidTree}
 use Rattle.mm_tree.proofs.StepLemmas.{node_root, node_left, node_right}
-use Rattle.mm_nodes.specs.KeptTrees.{KeptTree, top, count, path_in, row_sum, remade, StandsFor, StandsBeside}
+use Rattle.mm_nodes.specs.KeptTrees.{KeptTree, top, count, path_in, remade, StandsFor, StandsBeside}
 use Rattle.mm_nodes.specs.KeptTrees.KeptTree.{One, Two}
-use Rattle.mm_nodes.specs.Demands.{Frame, HasTypes, IsWithin, made, made_rows}
-use Rattle.mm_nodes.specs.Calls.{Exceeds, AddsEntry}
-use Rattle.mm_nodes.specs.Walks.{pair_types, path_rows, highest, CanRemake, RemakesPath, Remakes, AddsAbove, StaysAbove, StepsUp}
+use Rattle.mm_nodes.specs.Demands.{Frame, IsWithin, made}
+use Rattle.mm_nodes.specs.Calls.{Exceeds}
+use Rattle.mm_nodes.specs.Walks.{pair_types, path_rows, highest, CanRemake, RemakesPath, AddsAbove, StaysAbove}
 use Rattle.mm_nodes.specs.declared.TheConstants.{MOST_ROWS}
 use Rattle.mm_nodes.specs.declared.keeps.Keeps.{Ghosts}
-use Rattle.mm_nodes.specs.declared.keeps.KeepFault.{KeepFault}
-use Rattle.mm_nodes.specs.declared.keeps.KeepFault.TheVariants.{Full}
 use Rattle.mm_nodes.proofs.RoomLemmas.{within-append, within-then, within-same, exceeds_part, exceeds_later}
 use Rattle.mm_nodes.proofs.StandsLemmas.{Laws, Stands, has, stands-stays, as_many}
 use Rattle.mm_nodes.proofs.BuildLemmas.{asked_types, left_within, right_within, own_within}
@@ -177,9 +175,9 @@ module _ {N : Type 0} (K : Ghosts N) (laws : Laws K) (F : Formula) (op : OpValue
         let here : slice_index_or later (length path) n ≡ s.entry = ap (λ ms. slice_index_or ms (length path) n) s.items_grow ∙ get-at items [] s.entry (length path) n (sym long) in
         let below : remade path a new later ≡ (remade path a new items) = ap (λ ms. remade path a new ms) s.items_grow ∙ remade-front path a new items (s.entry ∷ []) (omega (arith, long)) in
         let is : K.IsJoin (lframe nows) op.op (top (remade path a new items)) (top b) s.entry =
-            subst (λ (m : N). K.IsJoin (lframe nows) op.op m (top b) s.entry) (left_highest e) s.adds.is in
+        subst (λ (m : N). K.IsJoin (lframe nows) op.op m (top b) s.entry) (left_highest e) s.adds.is in
         let stands : StandsFor (K.IsLeaf (lframe nows)) (K.IsJoin (lframe nows)) lwhole (Two s.entry (remade path a new items) b) =
-            (is, stands-stays K laws (lframe mids) nows l (remade path a new items) begins k.stands, stands-stays K laws (lframe mids) nows r b begins left_sibling) in
+        (is, stands-stays K laws (lframe mids) nows l (remade path a new items) begins k.stands, stands-stays K laws (lframe mids) nows r b begins left_sibling) in
         let counted = (has K laws (lframe nows) lwhole (Two s.entry (remade path a new items) b) stands).counted in
         let sum = k.rows in
         let own = s.adds.rows in
@@ -190,9 +188,12 @@ module _ {N : Type 0} (K : Ghosts N) (laws : Laws K) (F : Formula) (op : OpValue
           same = λ still. subst (λ (m : N). K.Same m n) (sym here) (s.same still);
           few = omega (arith, more, long);
           all = λ c. omega (arith, more, long);
-          grown = (lgrowth ++ vs, calls-then F olds mids nows lgrowth vs k.grown.1 grown,
-              within-append lgrowth vs (made op.f (K.query F) (shape lwhole)) lin_whole
-              (within-then vs ltypes (made op.f (K.query F) (shape lwhole)) (within-same vs ltypes (lasked_same e)) (own_within K laws F op name l r)));
+          grown = (
+            lgrowth ++ vs,
+            calls-then F olds mids nows lgrowth vs k.grown.1 grown,
+            within-append lgrowth vs (made op.f (K.query F) (shape lwhole)) lin_whole
+                (within-then vs ltypes (made op.f (K.query F) (shape lwhole)) (within-same vs ltypes (lasked_same e)) (own_within K laws F op name l r)),
+          );
           cells = s.adds.cells;
           rows = omega (arith, counted, sum, own);
           small = λ c. small;
@@ -206,7 +207,7 @@ module _ {N : Type 0} (K : Ghosts N) (laws : Laws K) (F : Formula) (op : OpValue
         let few = k.few in
         let here : slice_index_or items (length path) n ≡ n = get-after items (length path) n few in
         let is : K.IsJoin (lframe mids) op.op (top (remade path a new items)) (top b) n =
-            laws.same_left (lframe mids) op.op (top a) (top (remade path a new items)) (top b) n (k.same e) (laws.join_stays (lframe olds) mids op.op (top a) (top b) n llater can.beside.0) in
+        laws.same_left (lframe mids) op.op (top a) (top (remade path a new items)) (top b) n (k.same e) (laws.join_stays (lframe olds) mids op.op (top a) (top b) n llater can.beside.0) in
         let stands : StandsFor (K.IsLeaf (lframe mids)) (K.IsJoin (lframe mids)) lwhole (Two n (remade path a new items) b) = (is, k.stands, left_sibling) in
         let counted = (has K laws (lframe mids) lwhole (Two n (remade path a new items) b) stands).counted in
         let sum = k.rows in
@@ -305,9 +306,9 @@ module _ {N : Type 0} (K : Ghosts N) (laws : Laws K) (F : Formula) (op : OpValue
         let here : slice_index_or later (length path) n ≡ s.entry = ap (λ ms. slice_index_or ms (length path) n) s.items_grow ∙ get-at items [] s.entry (length path) n (sym long) in
         let below : remade path b new later ≡ (remade path b new items) = ap (λ ms. remade path b new ms) s.items_grow ∙ remade-front path b new items (s.entry ∷ []) (omega (arith, long)) in
         let is : K.IsJoin (rframe nows) op.op (top a) (top (remade path b new items)) s.entry =
-            subst (λ (m : N). K.IsJoin (rframe nows) op.op (top a) m s.entry) (right_highest e) s.adds.is in
+        subst (λ (m : N). K.IsJoin (rframe nows) op.op (top a) m s.entry) (right_highest e) s.adds.is in
         let stands : StandsFor (K.IsLeaf (rframe nows)) (K.IsJoin (rframe nows)) rwhole (Two s.entry a (remade path b new items)) =
-            (is, stands-stays K laws (rframe mids) nows l a begins right_sibling, stands-stays K laws (rframe mids) nows r (remade path b new items) begins k.stands) in
+        (is, stands-stays K laws (rframe mids) nows l a begins right_sibling, stands-stays K laws (rframe mids) nows r (remade path b new items) begins k.stands) in
         let counted = (has K laws (rframe nows) rwhole (Two s.entry a (remade path b new items)) stands).counted in
         let sum = k.rows in
         let own = s.adds.rows in
@@ -318,9 +319,12 @@ module _ {N : Type 0} (K : Ghosts N) (laws : Laws K) (F : Formula) (op : OpValue
           same = λ still. subst (λ (m : N). K.Same m n) (sym here) (s.same still);
           few = omega (arith, more, long);
           all = λ c. omega (arith, more, long);
-          grown = (rgrowth ++ vs, calls-then F olds mids nows rgrowth vs k.grown.1 grown,
-              within-append rgrowth vs (made op.f (K.query F) (shape rwhole)) rin_whole
-              (within-then vs rtypes (made op.f (K.query F) (shape rwhole)) (within-same vs rtypes (rasked_same e)) (own_within K laws F op name l r)));
+          grown = (
+            rgrowth ++ vs,
+            calls-then F olds mids nows rgrowth vs k.grown.1 grown,
+            within-append rgrowth vs (made op.f (K.query F) (shape rwhole)) rin_whole
+                (within-then vs rtypes (made op.f (K.query F) (shape rwhole)) (within-same vs rtypes (rasked_same e)) (own_within K laws F op name l r)),
+          );
           cells = s.adds.cells;
           rows = omega (arith, counted, sum, own);
           small = λ c. small;
@@ -334,7 +338,7 @@ module _ {N : Type 0} (K : Ghosts N) (laws : Laws K) (F : Formula) (op : OpValue
         let few = k.few in
         let here : slice_index_or items (length path) n ≡ n = get-after items (length path) n few in
         let is : K.IsJoin (rframe mids) op.op (top a) (top (remade path b new items)) n =
-            laws.same_right (rframe mids) op.op (top a) (top b) (top (remade path b new items)) n (k.same e) (laws.join_stays (rframe olds) mids op.op (top a) (top b) n rlater can.beside.0) in
+        laws.same_right (rframe mids) op.op (top a) (top b) (top (remade path b new items)) n (k.same e) (laws.join_stays (rframe olds) mids op.op (top a) (top b) n rlater can.beside.0) in
         let stands : StandsFor (K.IsLeaf (rframe mids)) (K.IsJoin (rframe mids)) rwhole (Two n a (remade path b new items)) = (is, right_sibling, k.stands) in
         let counted = (has K laws (rframe mids) rwhole (Two n a (remade path b new items)) stands).counted in
         let sum = k.rows in

@@ -1,5 +1,5 @@
 -- Lists that are exact, and when their cells exceed a limit.
-use Rattle.std.proofs.Common.{rules, ◌≡◌, ◌<◌, ◌≤◌, ◌+◌, ℕ, Bool, true, false, not, ◌||◌, List, [], ◌∷◌, ◌++◌, map, length, filter, refl, sym, ap, ◌∙◌, subst, arith, All}
+use Rattle.std.proofs.Common.{rules, ◌≡◌, ◌<◌, ◌≤◌, ◌+◌, ℕ, Bool, true, false, not, ◌||◌, List, [], ◌∷◌, ◌++◌, map, length, refl, sym, ap, ◌∙◌, arith, All}
 use Rattle.std.specs.List.{list_any}
 use Rattle.std.proofs.lemmas.List.{length-map}
 use Rattle.std.proofs.lemmas.List.Folds.{list_any-append}
@@ -134,7 +134,7 @@ pub exceeds_later : (F : Formula) (olds mids : List (List Value)) (us vs ws : Li
 exceeds_later F olds mids us vs ws few many limit g f h le e all p q =
     let more = grown-members (root F olds) (root F mids) us (root-grows F olds mids us g) in
     let one = e all (within-then (root F mids) (root F olds ++ us) all (within-same (root F mids) (root F olds ++ us) more) (within-append (root F olds) us all p (within-then us ws all f q)))
-        (within-then vs ws all h q) in
+    (within-then vs ws all h q) in
     omega (arith, one, le)
 
 pub exceeds_part : (F : Formula) (lists : List (List Value)) (vs ws : List Value) (few many limit : ℕ) → IsWithin vs ws → few ≤ many → Exceeds F lists vs few limit → Exceeds F lists ws many limit

@@ -1,10 +1,8 @@
 -- What stands for a tree has its nodes, its types and its rows, and stands for it where the lists grow.
-use Rattle.std.proofs.Common.{rules, ◌≡◌, ◌<◌, ◌≤◌, ◌+◌, ℕ, Bool, true, false, not, ◌||◌, List, [], ◌∷◌, ◌++◌, map, flat_map, sum_by, length, filter, refl, sym, ap, ◌∙◌, subst, arith, All}
+use Rattle.std.proofs.Common.{rules, ◌≡◌, ◌+◌, ℕ, true, false, List, [], ◌∷◌, ◌++◌, map, sum_by, length, refl, sym, ap, ◌∙◌, subst, arith}
 use Rattle.std.specs.List.{list_any}
-use Rattle.std.proofs.lemmas.List.Folds.{list_any-append}
 use Rattle.std.proofs.lemmas.List.Sums.{sum_by-append, sum_by-cons}
 use Rattle.std.proofs.lemmas.Grind.{flat_map-append}
-use Rattle.mm_field.specs.declared.Field.{Field}
 use Rattle.mm_logic.specs.Formula.{Formula}
 use Rattle.mm_logic.specs.Operator.{Op}
 use Rattle.mm_logic.specs.Value.{Value}
@@ -12,7 +10,7 @@ use Rattle.mm_logic.specs.Order.{SameMembers}
 use Rattle.mm_logic.specs.Occurrence.{distinct}
 use Rattle.mm_logic.specs.JoinRule.{all_pairs, join_type}
 use Rattle.mm_logic.specs.Growth.{root, AllBegin}
-use Rattle.mm_logic.specs.StateSize.{Query, asked}
+use Rattle.mm_logic.specs.StateSize.{asked}
 use Rattle.mm_logic.specs.Tree as shapes
 use Rattle.mm_logic.proofs.BagLemmas.{bag-same}
 use Rattle.mm_logic.proofs.SetLemmas.{list_any-map, list_any-flat_map, list_any-same}
@@ -25,7 +23,7 @@ use Rattle.mm_nodes.specs.KeptTrees.{KeptTree, top, count, row_sum, StandsFor, S
 use Rattle.mm_nodes.specs.KeptTrees.KeptTree.{One, Two}
 use Rattle.mm_nodes.specs.Demands.{Frame, HasTypes, IsWithin, made, made_rows}
 use Rattle.mm_nodes.specs.declared.keeps.Keeps.{Ghosts}
-use Rattle.mm_nodes.proofs.RoomLemmas.{within-append, within-then, within-same, same-within}
+use Rattle.mm_nodes.proofs.RoomLemmas.{within-append, within-then, same-within}
 
 count_each : (vs : List Value) → sum_by (λ v. 1) vs ≡ length vs
 count_each [] = refl
@@ -70,8 +68,8 @@ module _ {N : Type 0} (K : Ghosts N) (laws : Laws K) (fr : Frame) where
   unfolding shape
   joined_has name op l r a b ts rows g h has =
       let all : SameMembers (all_pairs (join_type fr.f fr.F op) a b) (given (Join name op l r)) =
-          subst (λ (G : Formula). SameMembers (all_pairs (join_type fr.f fr.F op) a b) (all_pairs (join_type fr.f G op) (given l) (given r))) (sym (laws.asks fr.F))
-          (all_pairs-same (join_type fr.f fr.F op) a (given l) b (given r) g h) in
+      subst (λ (G : Formula). SameMembers (all_pairs (join_type fr.f fr.F op) a b) (all_pairs (join_type fr.f G op) (given l) (given r))) (sym (laws.asks fr.F))
+      (all_pairs-same (join_type fr.f fr.F op) a (given l) b (given r) g h) in
       record {
         types = same-then ts (all_pairs (join_type fr.f fr.F op) a b) (given (Join name op l r)) has.types all;
         counted = has.counted ∙ as_many (all_pairs (join_type fr.f fr.F op) a b) (given (Join name op l r)) all;

@@ -1,14 +1,13 @@
 -- Steps upwards as the walk meets them: a node, what is kept there, and the number of the place.
-use Rattle.std.proofs.Common.{rules, ◌≡◌, ◌<◌, ◌≤◌, ◌+◌, ◌-◌, ℕ, Bool, true, false, List, [], ◌∷◌, length, Result, Ok, Err, Option, Some, None, nat_lt, if◌then◌else◌, refl, sym, ap, ◌∙◌, subst, arith}
+use Rattle.std.proofs.Common.{◌≡◌, ◌<◌, ◌≤◌, ◌+◌, ◌-◌, ℕ, Bool, true, false, List, [], ◌∷◌, length, Result, Ok, Err, Option, Some, None, nat_lt, if◌then◌else◌, refl, sym, ap, ◌∙◌, subst, arith}
 use Rattle.mm_field.specs.declared.Field.{Field}
 use Rattle.mm_logic.specs.Formula.{Formula}
 use Rattle.mm_logic.specs.Value.{Value}
-use Rattle.mm_logic.specs.Occurrence.{occurring, distinct}
-use Rattle.mm_logic.specs.Growth.{AllGrown}
+use Rattle.mm_logic.specs.Occurrence.{distinct}
 use Rattle.mm_ops.specs.OpValue.{OpValue}
-use Rattle.mm_tree.specs.NamedTree.{Tree, shape, boundary, nodes}
+use Rattle.mm_tree.specs.NamedTree.{Tree, shape, nodes}
 use Rattle.mm_tree.specs.NamedTree.Tree.{Elem, Void, Join}
-use Rattle.mm_tree.specs.Nodes.{named, named_leaf, field_of, IsOver}
+use Rattle.mm_tree.specs.Nodes.{named, named_leaf, field_of}
 use Rattle.mm_tree.specs.Paths.{Path}
 use Rattle.mm_tree.specs.declared.node.Item.{Item}
 use Rattle.mm_tree.specs.declared.node.Leaf.{Leaf}

@@ -1,17 +1,17 @@
 -- What is kept for a whole tree: its types, and whether they fit.
-use Rattle.std.proofs.Common.{rules, ◌≡◌, ◌<◌, ◌≤◌, ◌+◌, ◌-◌, ℕ, zero, suc, nat_lt, Bool, true, false, List, [], ◌∷◌, ◌++◌, length, if◌then◌else◌, ◌⊎◌, inl, inr, refl, sym, ap, ◌∙◌, subst, arith}
+use Rattle.std.proofs.Common.{◌≡◌, ◌<◌, ◌≤◌, ◌+◌, ◌-◌, ℕ, zero, suc, nat_lt, Bool, true, false, List, [], ◌∷◌, ◌++◌, if◌then◌else◌, ◌⊎◌, inl, inr, refl, sym, ap, ◌∙◌, arith}
 use Rattle.std.proofs.lemmas.Bool.{lt-ltb, le-ltb, ltb-true, ltb-false}
 use Rattle.mm_field.specs.declared.Field.{Field}
 use Rattle.mm_logic.specs.Formula.{Formula}
 use Rattle.mm_logic.specs.Value.{Value}
 use Rattle.mm_logic.specs.Occurrence.{nodes as parts, occurring, list_cells, cells}
-use Rattle.mm_logic.specs.Growth.{root, missing_cells, AllGrown}
+use Rattle.mm_logic.specs.Growth.{root, AllGrown}
 use Rattle.mm_logic.proofs.GrowthLemmas.{none_missing_cells}
 use Rattle.mm_tree.specs.NamedTree.{Tree, shape, nodes}
 use Rattle.mm_tree.specs.NamedTree.Tree.{Elem, Void, Join}
 use Rattle.mm_tree.specs.Paths.{Path}
 use Rattle.mm_tree.specs.Places.{path_of}
-use Rattle.mm_nodes.specs.KeptTrees.{KeptTree, count, path_in, row_sum, StandsFor, StandsBeside}
+use Rattle.mm_nodes.specs.KeptTrees.{KeptTree, count, path_in, StandsFor, StandsBeside}
 use Rattle.mm_nodes.specs.KeptTrees.KeptTree.{One, Two}
 use Rattle.mm_nodes.specs.KeptNodes.{tree_of, IsCounted}
 use Rattle.mm_nodes.specs.Demands.{Frame, IsExact, IsWithin, made, made_rows}
@@ -100,17 +100,19 @@ module _ {N : Type 0} (K : Ghosts N) (laws : Laws K) (fr : Frame) where
           → IsSameWay (suc k) (Join name op l r) (Two n x y)
       by_turn left right (inl t) =
           let ih = left (ltb-true k (nodes l) t.0) t.1 in
-          let inside = ih.0 in
-          (omega (arith, inside),
-          ap (λ (b : Bool). if b then true ∷ path_in k x else false ∷ path_in (k - count x) y) (lt-ltb k (count x) ih.0)
-          ∙ ap (λ p. true ∷ p) ih.1
-          ∙ sym (ap (λ (b : Bool). if b then true ∷ path_of k l else false ∷ path_of (k - nodes l) r) t.0))
+          let inside = ih.0 in (
+            omega (arith, inside),
+            ap (λ (b : Bool). if b then true ∷ path_in k x else false ∷ path_in (k - count x) y) (lt-ltb k (count x) ih.0)
+                ∙ ap (λ p. true ∷ p) ih.1
+                ∙ sym (ap (λ (b : Bool). if b then true ∷ path_of k l else false ∷ path_of (k - nodes l) r) t.0),
+          )
       by_turn left right (inr t) =
           let less = ltb-false k (nodes l) t.0 in
           let same = stands-count K laws fr l x t.1 in
           let ih = right (omega (arith, less, h)) t.2 in
-          let inside = ih.0 in
-          (omega (arith, inside, same, less),
-          ap (λ (b : Bool). if b then true ∷ path_in k x else false ∷ path_in (k - count x) y) (le-ltb k (count x) (omega (arith, same, less)))
-          ∙ ap (λ m. false ∷ path_in (k - m) y) same ∙ ap (λ p. false ∷ p) ih.1
-          ∙ sym (ap (λ (b : Bool). if b then true ∷ path_of k l else false ∷ path_of (k - nodes l) r) t.0))
+          let inside = ih.0 in (
+            omega (arith, inside, same, less),
+            ap (λ (b : Bool). if b then true ∷ path_in k x else false ∷ path_in (k - count x) y) (le-ltb k (count x) (omega (arith, same, less)))
+                ∙ ap (λ m. false ∷ path_in (k - m) y) same ∙ ap (λ p. false ∷ p) ih.1
+                ∙ sym (ap (λ (b : Bool). if b then true ∷ path_of k l else false ∷ path_of (k - nodes l) r) t.0),
+          )

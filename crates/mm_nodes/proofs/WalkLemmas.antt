@@ -1,5 +1,5 @@
 -- A join and its children as nodes: what a walk below a join needs.
-use Rattle.std.proofs.Common.{rules, ◌≡◌, ◌<◌, ◌≤◌, ◌+◌, ℕ, List, [], ◌∷◌, Option, Some, None, refl, sym, ap, ◌∙◌, subst, arith}
+use Rattle.std.proofs.Common.{◌≡◌, ◌<◌, ◌≤◌, ◌+◌, ℕ, List, [], ◌∷◌, Option, Some, None, refl, sym, ap, ◌∙◌, subst, arith}
 use Rattle.std.proofs.Common.{Box, Global}
 use Rattle.mm_field.specs.declared.Field.{Field}
 use Rattle.mm_logic.specs.Formula.{Formula}
@@ -18,7 +18,7 @@ use Rattle.mm_tree.specs.declared.node.Node.{Node}
 use Rattle.mm_tree.specs.declared.node.Node.TheViews as views
 use Rattle.mm_tree.specs.declared.node.Node as nodes_of
 use Rattle.mm_tree.proofs.Walks.{named_join, named_of_leaf, leaf_nodes}
-use Rattle.mm_tree.proofs.PathLemmas.{nodes_join, some_nodes}
+use Rattle.mm_tree.proofs.PathLemmas.{nodes_join}
 use Rattle.mm_tree.proofs.TreeLemmas.{valid_left, valid_right, over_field, few_nodes, shape_boundary}
 use Rattle.mm_nodes.specs.Demands.{IsExact}
 use Rattle.mm_nodes.specs.Calls.{CanWalk, CanMakeLeaf}

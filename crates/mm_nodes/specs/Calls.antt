@@ -1,16 +1,14 @@
 -- What a call that makes an entry needs, and what it answers.
-use Rattle.std.specs.Prelude.{◌≡◌, ◌<◌, ◌≤◌, ℕ, ◌+◌, ◌^◌, nat_abs, All, List, ◌∷◌, length, Result, Ok, Err}
+use Rattle.std.specs.Prelude.{◌≡◌, ◌<◌, ◌≤◌, ℕ, ◌+◌, List, length, Result, Ok, Err}
 use Rattle.mm_field.specs.declared.Field.{Field}
 use Rattle.mm_logic.specs.Formula.{Formula}
 use Rattle.mm_logic.specs.Value.{Value}
-use Rattle.mm_logic.specs.Tree.{IsValid}
 use Rattle.mm_logic.specs.Occurrence.{nodes, occurring, distinct, list_cells, cells}
 use Rattle.mm_logic.specs.Growth.{root, missing_cells, AllGrown}
 use Rattle.mm_nodes.specs.declared.TheConstants.{MAX_LIMIT, MOST_ROWS}
 use Rattle.mm_nodes.specs.Demands.{IsExact, IsWithin}
 use Rattle.mm_states.specs.Letters as letters
 use Rattle.mm_states.specs.Calls.{IsRoomy}
-use Rattle.mm_tree.specs.NamedTree.{Tree, shape, weights}
 use Rattle.mm_tree.specs.ValidTree.{IsValidTree}
 use Rattle.mm_tree.specs.Nodes.{named, named_leaf, field_of, IsOver}
 use Rattle.mm_tree.specs.declared.node.Node.{Node}

@@ -16,7 +16,7 @@ use Rattle.mm_nodes.specs.declared.keeps.KeepFault.TheVariants.{Full}
 use Rattle.mm_nodes.specs.declared.change.Change.{Change}
 use Rattle.mm_nodes.specs.KeptTrees.{KeptTree, remade, row_sum, StandsFor}
 use Rattle.mm_nodes.specs.KeptNodes.{tree_of, IsCounted}
-use Rattle.mm_nodes.specs.Demands.{Frame, IsExact, IsWithin, made, made_rows}
+use Rattle.mm_nodes.specs.Demands.{IsExact, IsWithin, made, made_rows}
 use Rattle.mm_nodes.specs.Calls.{Exceeds}
 
 -- With the new part and the entries above it, what is kept stands for the tree, within the limit.

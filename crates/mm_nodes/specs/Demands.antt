@@ -1,13 +1,13 @@
 -- What a tree needs of an automaton's lists and of the limit.
-use Rattle.std.specs.Prelude.{◌≡◌, ◌<◌, ◌≤◌, ℕ, ◌+◌, true, Bool, List, [], ◌∷◌, ◌++◌, length, flat_map, sum_by, Result, Ok, Err}
+use Rattle.std.specs.Prelude.{◌≡◌, ℕ, true, Bool, List, length, flat_map, sum_by}
 use Rattle.std.specs.List.{list_any}
 use Rattle.mm_field.specs.declared.Field.{Field}
 use Rattle.mm_logic.specs.Formula.{Formula}
 use Rattle.mm_logic.specs.Value.{Value}
 use Rattle.mm_logic.specs.Tree.{Tree, subtrees}
 use Rattle.mm_logic.specs.Order.{SameMembers}
-use Rattle.mm_logic.specs.Occurrence.{nodes, occurring, distinct, list_cells, cells}
-use Rattle.mm_logic.specs.Growth.{root, no_values, missing_cells, AllGrown}
+use Rattle.mm_logic.specs.Occurrence.{occurring, distinct}
+use Rattle.mm_logic.specs.Growth.{root, no_values, AllGrown}
 use Rattle.mm_logic.specs.StateSize.{Query}
 use Rattle.mm_logic_laws.specs.ValueLaws.{types_by_rules}
 

@@ -1,5 +1,5 @@
 -- What is kept at the nodes of a tree, in the shape of the tree, and what becomes of it where a part is made anew.
-use Rattle.std.specs.Prelude.{◌≡◌, ◌<◌, ℕ, zero, suc, ◌+◌, ◌-◌, nat_lt, Bool, true, false, List, [], ◌∷◌, ◌++◌, length, slice_index_or, if◌then◌else◌}
+use Rattle.std.specs.Prelude.{ℕ, zero, suc, ◌+◌, ◌-◌, nat_lt, true, false, List, [], ◌∷◌, length, slice_index_or, if◌then◌else◌}
 use Rattle.mm_logic.specs.Operator.{Op}
 use Rattle.mm_tree.specs.NamedTree.{Tree}
 use Rattle.mm_tree.specs.NamedTree.Tree.{Elem, Void, Join}

@@ -4,3 +4,4 @@ pub mod Demands
 pub mod Calls
 pub mod Walks
 pub mod Changes
+pub mod KeptCode

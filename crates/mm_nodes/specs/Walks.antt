@@ -1,5 +1,5 @@
 -- What walks over the nodes of a tree make.
-use Rattle.std.specs.Prelude.{◌≡◌, ◌<◌, ◌≤◌, ℕ, zero, suc, ◌+◌, ◌*◌, Bool, true, false, List, [], ◌∷◌, ◌++◌, length, Option, Some, None, Result, Ok, Err}
+use Rattle.std.specs.Prelude.{◌≡◌, ◌<◌, ◌≤◌, ℕ, ◌+◌, ◌*◌, Bool, true, false, List, [], ◌∷◌, ◌++◌, length, Option, Some, None, Result, Ok, Err}
 use Rattle.mm_field.specs.declared.Field.{Field}
 use Rattle.mm_logic.specs.Formula.{Formula}
 use Rattle.mm_logic.specs.Value.{Value}
@@ -10,7 +10,7 @@ use Rattle.mm_logic.specs.StateSize.{Query}
 use Rattle.mm_logic_laws.specs.ValueLaws.{types_by_rules}
 use Rattle.mm_ops.specs.OpValue.{OpValue}
 use Rattle.mm_tree.specs.NamedTree.{Tree, shape}
-use Rattle.mm_tree.specs.NamedTree.Tree.{Elem, Void, Join}
+use Rattle.mm_tree.specs.NamedTree.Tree.{Join}
 use Rattle.mm_tree.specs.Paths.{Path, node_at}
 use Rattle.mm_nodes.specs.declared.TheConstants.{MOST_ROWS}
 use Rattle.mm_nodes.specs.declared.keeps.Keeps.{Ghosts}
@@ -20,7 +20,7 @@ use Rattle.mm_nodes.specs.declared.kept.Kept.{Kept}
 use Rattle.mm_nodes.specs.KeptTrees.{KeptTree, top, row_sum, remade, StandsFor, StandsBeside}
 use Rattle.mm_nodes.specs.KeptTrees.KeptTree.{Two}
 use Rattle.mm_nodes.specs.KeptNodes.{tree_of, IsCounted}
-use Rattle.mm_nodes.specs.Demands.{Frame, IsWithin, made, made_rows}
+use Rattle.mm_nodes.specs.Demands.{IsWithin, made, made_rows}
 use Rattle.mm_nodes.specs.Calls.{AddsEntry, Exceeds}
 
 -- the types that a join makes of what two nodes keep

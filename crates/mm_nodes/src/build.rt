@@ -14,7 +14,7 @@ ghost use Rattle.mm_nodes.specs.KeptNodes.{tree_of, IsCounted};
 ghost use Rattle.mm_nodes.specs.Calls.{CanWalk, CanMakeLeaf, IsRoom, Adds};
 ghost use Rattle.mm_nodes.specs.Walks.{Joins, Builds};
 
-use crate::{Keeps, KeepFault, Kept};
+use crate::{KeepFault, Keeps, Kept};
 use mm_base::Steps;
 use mm_ops::Op;
 use mm_states::Automaton;
@@ -140,7 +140,16 @@ fn join_parts<N: Keeps, A: Automaton, L: Ledger>(
     let Ok(right) = Box::new(alloc, right) else {
         return Err(KeepFault::NoMemory);
     };
-    match add_join(alloc, automaton, op, left.entry(), right.entry(), limit, rows, steps) {
+    match add_join(
+        alloc,
+        automaton,
+        op,
+        left.entry(),
+        right.entry(),
+        limit,
+        rows,
+        steps,
+    ) {
         Ok(entry) => Ok(Kept::two(entry, left, right)),
         Err(fault) => Err(fault),
     }

@@ -83,7 +83,9 @@ fn remake_above<N: Keeps, A: Automaton, L: Ledger>(
 {
     let mut made = Vec::new(alloc);
     let mut all = rows;
-    match remake(alloc, automaton, node, kept, at, &part, &mut made, limit, &mut all, steps) {
+    match remake(
+        alloc, automaton, node, kept, at, &part, &mut made, limit, &mut all, steps,
+    ) {
         Ok(_) => {
             if automaton.cells() + all > limit {
                 return Err(KeepFault::Full);
@@ -116,7 +118,14 @@ pub(crate) fn remake_part<N: Keeps, A: Automaton, L: Ledger>(
     ensures changes { Changes N.Keeps (A.shape automaton.old) (A.lists automaton.old) (A.lists automaton.new) (field_of node.now) (named node.now) (tree_of kept.now) (path_in at (tree_of kept.now)) limit (made_rows (field_of node.now) (N.query (A.shape automaton.old)) (shape (named node.now))) result }
 {
     let mut rows = rows_beside(kept, at);
-    match build(alloc, automaton, part_at(node, kept, at), limit, &mut rows, steps) {
+    match build(
+        alloc,
+        automaton,
+        part_at(node, kept, at),
+        limit,
+        &mut rows,
+        steps,
+    ) {
         Ok(part) => remake_above(alloc, automaton, kept, node, at, part, limit, rows, steps),
         Err(fault) => Err(fault),
     }

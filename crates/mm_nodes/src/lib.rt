@@ -9,7 +9,7 @@ mod kept;
 mod redo_tree;
 mod remake;
 
-pub use keeps::{Keeps, KeepFault};
+pub use keeps::{KeepFault, Keeps};
 pub use kept::Kept;
 pub use redo_tree::{of, redo};
 

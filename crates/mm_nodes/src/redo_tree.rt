@@ -81,7 +81,15 @@ pub fn redo<N: Keeps, A: Automaton, L: Ledger>(
     ensures marked { OnErr result (A.marked automaton.new ≡ A.marked automaton.old) }
     ensures full { IfErr result (λ e. e ≡ Full → IsFull (A.shape automaton.old) (N.query (A.shape automaton.old)) (root (A.shape automaton.old) (A.lists automaton.old)) after.now.f after.now.tree limit) }
 {
-    match remake_part(alloc, automaton, kept, after.node(), place.number(), limit, steps) {
+    match remake_part(
+        alloc,
+        automaton,
+        kept,
+        after.node(),
+        place.number(),
+        limit,
+        steps,
+    ) {
         Ok(change) => {
             put(kept, place, change);
             automaton.mark();

@@ -97,7 +97,16 @@ fn step_from_left<N: Keeps, A: Automaton, L: Ledger>(
         *rows += old.row_count() as u64;
         return Ok(false);
     }
-    match add_join(alloc, automaton, op, last_made(made, new), sibling, limit, rows, steps) {
+    match add_join(
+        alloc,
+        automaton,
+        op,
+        last_made(made, new),
+        sibling,
+        limit,
+        rows,
+        steps,
+    ) {
         Ok(entry) => renew(old, entry, made),
         Err(fault) => Err(fault),
     }
@@ -135,7 +144,16 @@ fn step_from_right<N: Keeps, A: Automaton, L: Ledger>(
         *rows += old.row_count() as u64;
         return Ok(false);
     }
-    match add_join(alloc, automaton, op, sibling, last_made(made, new), limit, rows, steps) {
+    match add_join(
+        alloc,
+        automaton,
+        op,
+        sibling,
+        last_made(made, new),
+        limit,
+        rows,
+        steps,
+    ) {
         Ok(entry) => renew(old, entry, made),
         Err(fault) => Err(fault),
     }
@@ -177,13 +195,59 @@ pub(crate) fn remake<N: Keeps, A: Automaton, L: Ledger>(
             Node::Join(_, op, left, right) => {
                 let before = first.nodes();
                 if at - 1 < before {
-                    match remake(alloc, automaton, left, first, at - 1, new, made, limit, rows, steps) {
-                        Ok(changed) => step_from_left(alloc, automaton, op, changed, above.entry(), second.entry(), new, made, limit, rows, steps),
+                    match remake(
+                        alloc,
+                        automaton,
+                        left,
+                        first,
+                        at - 1,
+                        new,
+                        made,
+                        limit,
+                        rows,
+                        steps,
+                    ) {
+                        Ok(changed) => step_from_left(
+                            alloc,
+                            automaton,
+                            op,
+                            changed,
+                            above.entry(),
+                            second.entry(),
+                            new,
+                            made,
+                            limit,
+                            rows,
+                            steps,
+                        ),
                         Err(fault) => Err(fault),
                     }
                 } else {
-                    match remake(alloc, automaton, right, second, at - 1 - before, new, made, limit, rows, steps) {
-                        Ok(changed) => step_from_right(alloc, automaton, op, changed, above.entry(), first.entry(), new, made, limit, rows, steps),
+                    match remake(
+                        alloc,
+                        automaton,
+                        right,
+                        second,
+                        at - 1 - before,
+                        new,
+                        made,
+                        limit,
+                        rows,
+                        steps,
+                    ) {
+                        Ok(changed) => step_from_right(
+                            alloc,
+                            automaton,
+                            op,
+                            changed,
+                            above.entry(),
+                            first.entry(),
+                            new,
+                            made,
+                            limit,
+                            rows,
+                            steps,
+                        ),
                         Err(fault) => Err(fault),
                     }
                 }

@@ -1,8 +1,7 @@
-use Rattle.std.proofs.Common.{rules, ◌≡◌, ◌<◌, ◌≤◌, ◌+◌, ℕ, List, length, Ok, Err, refl, sym, ap, ◌∙◌, subst, arith}
+use Rattle.std.proofs.Common.{rules, ◌<◌, refl, ap, ◌∙◌, arith}
 use Rattle.mm_tree.specs.NamedTree.{nodes}
-use Rattle.mm_tree.specs.Nodes.{named, field_of}
+use Rattle.mm_tree.specs.Nodes.{named}
 use Rattle.mm_nodes.specs.Calls.{CanWalk}
-use Rattle.mm_nodes.specs.Walks.{BuildsTree}
 use Rattle.mm_nodes.proofs.StandsLemmas.{Laws}
 use Rattle.mm_nodes.proofs.RoomLemmas.{exact-then}
 use Rattle.mm_nodes.proofs.WalkLemmas.{Meets, meets, meets_leaf, left_walks, right_walks, join_over, can_make, left_less, right_less, all_nodes, one_node}
@@ -25,8 +24,8 @@ build-requires g t c =
     let r = c.in-Join.right in
     let m : Meets c.args.node.now n c.in-Join.op l.value r.value = meets c.args.node.now n c.in-Join.op l r c.in-Join.is c.requires.can.over c.requires.can.valid in
     let walks : CanWalk (g.A.Automaton.shape c.args.automaton.now) (g.A.Automaton.field c.args.automaton.now) (g.A.Automaton.lists c.args.automaton.now) c.args.limit c.deref.result.now =
-        left_walks _ _ _ _ (g.A.Automaton.lists c.args.automaton.now) _ c.args.limit c.args.node.now c.deref.result.now n c.in-Join.op l.value r.value m c.requires.can refl refl
-        c.requires.can.exact c.requires.can.cells c.deref.ensures in
+    left_walks _ _ _ _ (g.A.Automaton.lists c.args.automaton.now) _ c.args.limit c.args.node.now c.deref.result.now n c.in-Join.op l.value r.value m c.requires.can refl refl
+    c.requires.can.exact c.requires.can.cells c.deref.ensures in
     let less : nodes (named c.deref.result.now) < nodes (named c.args.node.now) = left_less c.args.node.now n c.in-Join.op l.value r.value m c.deref.result.now c.deref.ensures in
     let down = c.decreases in
     search rules
@@ -38,12 +37,12 @@ build-requires-in-Ok-build g t c =
     let r = c.in-Join.right in
     let m : Meets c.args.node.now n c.in-Join.op l.value r.value = meets c.args.node.now n c.in-Join.op l r c.in-Join.is c.requires.can.over c.requires.can.valid in
     let walks : CanWalk (g.A.Automaton.shape c.build.new.automaton) (g.A.Automaton.field c.build.new.automaton) (g.A.Automaton.lists c.build.new.automaton) c.args.limit c.deref-in-Ok-build.result.now =
-        right_walks _ _ _ _ (g.A.Automaton.lists c.args.automaton.now) _ c.args.limit c.args.node.now c.deref-in-Ok-build.result.now n c.in-Join.op l.value r.value m c.requires.can
-        c.build.ensures.shape c.build.ensures.field
-        (exact-then _ (g.A.Automaton.lists c.args.automaton.now) (g.A.Automaton.lists c.build.new.automaton) _ c.requires.can.exact c.in-Ok-build.ensures.builds.grown) c.in-Ok-build.ensures.builds.cells
-        c.deref-in-Ok-build.ensures in
+    right_walks _ _ _ _ (g.A.Automaton.lists c.args.automaton.now) _ c.args.limit c.args.node.now c.deref-in-Ok-build.result.now n c.in-Join.op l.value r.value m c.requires.can
+    c.build.ensures.shape c.build.ensures.field
+    (exact-then _ (g.A.Automaton.lists c.args.automaton.now) (g.A.Automaton.lists c.build.new.automaton) _ c.requires.can.exact c.in-Ok-build.ensures.builds.grown) c.in-Ok-build.ensures.builds.cells
+    c.deref-in-Ok-build.ensures in
     let less : nodes (named c.deref-in-Ok-build.result.now) < nodes (named c.args.node.now) =
-        right_less c.args.node.now n c.in-Join.op l.value r.value m c.deref-in-Ok-build.result.now c.deref-in-Ok-build.ensures in
+    right_less c.args.node.now n c.in-Join.op l.value r.value m c.deref-in-Ok-build.result.now c.deref-in-Ok-build.ensures in
     let down = c.decreases in
     search rules
 

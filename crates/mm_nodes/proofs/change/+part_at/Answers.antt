@@ -1,11 +1,10 @@
-use Rattle.std.proofs.Common.{rules, ◌≡◌, ◌<◌, ◌≤◌, ◌+◌, ◌-◌, ℕ, List, ◌∷◌, true, false, refl, sym, ap, ◌∙◌, subst, arith}
+use Rattle.std.proofs.Common.{rules, ◌≡◌, ◌<◌, ◌≤◌, ◌+◌, ◌-◌, refl, sym, ap, ◌∙◌, subst, arith}
 use Rattle.mm_field.specs.declared.Field.{Field}
-use Rattle.mm_tree.specs.NamedTree.{Tree, nodes}
+use Rattle.mm_tree.specs.NamedTree.{nodes}
 use Rattle.mm_tree.specs.NamedTree.Tree.{Join}
 use Rattle.mm_tree.specs.Nodes.{named, field_of, IsOver}
 use Rattle.mm_tree.specs.Paths.{node_at}
 use Rattle.mm_tree.specs.ValidTree.{IsValidTree}
-use Rattle.mm_tree.specs.declared.node.Node.{Node}
 use Rattle.mm_tree.proofs.StepLemmas.{node_root, node_left, node_right}
 use Rattle.mm_tree.proofs.TreeLemmas.{over_field, valid_left, valid_right}
 use Rattle.mm_nodes.specs.KeptTrees.{KeptTree, count, path_in}
@@ -37,7 +36,7 @@ part_at-requires g t c =
     let less : nodes (named c.deref-then-at-before.result.now) < nodes (named c.args.node.now) = left_less c.args.node.now n op l.value r.value m c.deref-then-at-before.result.now c.deref-then-at-before.ensures in
     let over : IsOver (field_of c.deref-then-at-before.result.now) c.deref-then-at-before.result.now = child_over c.deref-then-at-before.result.now l.value op.f c.deref-then-at-before.ensures m.left in
     let valid : IsValidTree (field_of c.deref-then-at-before.result.now) (named c.deref-then-at-before.result.now) =
-        child_valid c.deref-then-at-before.result.now l.value op.f c.deref-then-at-before.ensures m.left (valid_left op.f n op.op (named l.value) (named r.value) m.valid) in
+    child_valid c.deref-then-at-before.result.now l.value op.f c.deref-then-at-before.ensures m.left (valid_left op.f n op.op (named l.value) (named r.value) m.valid) in
     let sums = subst (IsCounted g.N.Keeps.rows) c.in-Two.is c.requires.counted in
     let counted : IsCounted g.N.Keeps.rows c.deref-then-at-before-2.result.now = subst (IsCounted g.N.Keeps.rows) (sym c.deref-then-at-before-2.ensures) sums.2 in
     let here : count (tree_of c.deref-then-at-before-2.result.now) ≡ count a = ap (λ x. count (tree_of x)) c.deref-then-at-before-2.ensures in
@@ -96,7 +95,7 @@ part_at-requires-else-at-before g t c =
     let less : nodes (named c.deref-else-at-before.result.now) < nodes (named c.args.node.now) = right_less c.args.node.now n op l.value r.value m c.deref-else-at-before.result.now c.deref-else-at-before.ensures in
     let over : IsOver (field_of c.deref-else-at-before.result.now) c.deref-else-at-before.result.now = child_over c.deref-else-at-before.result.now r.value op.f c.deref-else-at-before.ensures m.right in
     let valid : IsValidTree (field_of c.deref-else-at-before.result.now) (named c.deref-else-at-before.result.now) =
-        child_valid c.deref-else-at-before.result.now r.value op.f c.deref-else-at-before.ensures m.right (valid_right op.f n op.op (named l.value) (named r.value) m.valid) in
+    child_valid c.deref-else-at-before.result.now r.value op.f c.deref-else-at-before.ensures m.right (valid_right op.f n op.op (named l.value) (named r.value) m.valid) in
     let sums = subst (IsCounted g.N.Keeps.rows) c.in-Two.is c.requires.counted in
     let counted : IsCounted g.N.Keeps.rows c.deref-else-at-before-2.result.now = subst (IsCounted g.N.Keeps.rows) (sym c.deref-else-at-before-2.ensures) sums.3 in
     let here : count (tree_of c.deref-else-at-before-2.result.now) ≡ count b = ap (λ x. count (tree_of x)) c.deref-else-at-before-2.ensures in
@@ -139,4 +138,3 @@ returns-else-at-before-clause-over g t c =
     let turn : count a ≤ c.args.at - 1 = subst (λ k. k ≤ c.args.at - 1) before c.if-at-before.false in
     let lower : c.args.at - 1 - c.nodes-before.result ≡ c.args.at - 1 - count a = ap (λ k. c.args.at - 1 - k) before in
     subst (λ (f : Field). IsOver f c.part_at-else-at-before.result.now) (ap field_of c.deref-else-at-before.ensures ∙ over_field op.f r.value m.right ∙ sym m.field) c.part_at-else-at-before.ensures.over
-

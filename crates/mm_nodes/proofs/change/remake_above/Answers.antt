@@ -1,4 +1,4 @@
-use Rattle.std.proofs.Common.{rules, ◌≡◌, ◌<◌, ◌≤◌, ◌+◌, ℕ, ap, ◌∙◌, subst, arith}
+use Rattle.std.proofs.Common.{◌≡◌, ◌<◌, ◌+◌, ap, arith}
 use Rattle.mm_logic.specs.Occurrence.{nodes as parts, list_cells}
 use Rattle.mm_tree.specs.Nodes.{named, field_of}
 use Rattle.mm_tree.proofs.TreeLemmas.{few_nodes}

@@ -1,15 +1,14 @@
-use Rattle.std.proofs.Common.{rules, ◌≡◌, ◌<◌, ◌≤◌, ◌+◌, ℕ, List, refl, sym, ap, ◌∙◌, subst, arith}
+use Rattle.std.proofs.Common.{◌≡◌, ◌+◌, sym, subst}
 use Rattle.mm_field.specs.declared.Field.{Field}
 use Rattle.mm_logic.specs.Formula.{Formula}
-use Rattle.mm_logic.specs.Value.{Value}
 use Rattle.mm_tree.specs.NamedTree.{Tree, shape}
 use Rattle.mm_tree.specs.Nodes.{named, field_of}
-use Rattle.mm_tree.specs.Paths.{Path, node_at}
+use Rattle.mm_tree.specs.Paths.{node_at}
 use Rattle.mm_tree.proofs.TreeLemmas.{over_field}
 use Rattle.mm_nodes.specs.KeptTrees.{KeptTree, path_in}
 use Rattle.mm_nodes.specs.KeptNodes.{tree_of}
-use Rattle.mm_nodes.specs.Demands.{Frame, made, made_rows}
-use Rattle.mm_nodes.specs.Calls.{CanWalk, Exceeds}
+use Rattle.mm_nodes.specs.Demands.{made, made_rows}
+use Rattle.mm_nodes.specs.Calls.{Exceeds}
 use Rattle.mm_nodes.specs.Walks.{BuildsTree, CanRemake, path_rows}
 use Rattle.mm_nodes.specs.Changes.{Changes}
 use Rattle.mm_nodes.proofs.StandsLemmas.{Laws}
@@ -46,7 +45,7 @@ remake_above-requires-clause-can g c =
     let before = c.rows_beside-rows.result in
     let part = c.in-Ok.part in
     let b : BuildsTree g.N.Keeps F olds mids f (node_at T path) c.args.limit before c.build.new.rows part =
-        as_part (λ h U. BuildsTree g.N.Keeps F olds mids h U c.args.limit before c.build.new.rows part) (field_of c.part_at.result.now) f (named c.part_at.result.now) (node_at T path) own c.part_at.ensures.tree c.in-Ok.ensures.builds in
+    as_part (λ h U. BuildsTree g.N.Keeps F olds mids h U c.args.limit before c.build.new.rows part) (field_of c.part_at.result.now) f (named c.part_at.result.now) (node_at T path) own c.part_at.ensures.tree c.in-Ok.ensures.builds in
     walks_on F (g.A.Automaton.shape c.build.new.automaton) (g.A.Automaton.field c.args.automaton.now) (g.A.Automaton.field c.build.new.automaton) olds mids c.args.limit c.args.node.now c.requires.can c.build.ensures.shape c.build.ensures.field (exact-then F olds mids _ c.requires.can.exact b.grown) b.cells
 
 pub remake_above-requires-clause-parts : goal.remake_above-requires-clause-parts
@@ -62,7 +61,7 @@ remake_above-requires-clause-parts g c =
     let before = c.rows_beside-rows.result in
     let part = c.in-Ok.part in
     let b : BuildsTree g.N.Keeps F olds mids f (node_at T path) c.args.limit before c.build.new.rows part =
-        as_part (λ h U. BuildsTree g.N.Keeps F olds mids h U c.args.limit before c.build.new.rows part) (field_of c.part_at.result.now) f (named c.part_at.result.now) (node_at T path) own c.part_at.ensures.tree c.in-Ok.ensures.builds in
+    as_part (λ h U. BuildsTree g.N.Keeps F olds mids h U c.args.limit before c.build.new.rows part) (field_of c.part_at.result.now) f (named c.part_at.result.now) (node_at T path) own c.part_at.ensures.tree c.in-Ok.ensures.builds in
     subst (λ (G : Formula). CanRemake g.N.Keeps G mids f T R (tree_of part) path) (sym c.build.ensures.shape) (can_remake g.N.Keeps (the_laws g) F olds mids f T R path c.args.limit before c.requires.beside c.rows_beside-rows.ensures.beside c.build.new.rows part b)
 
 pub returns-in-Ok-clause-changes : goal.returns-in-Ok-clause-changes
@@ -78,7 +77,7 @@ returns-in-Ok-clause-changes g c =
     let before = c.rows_beside-rows.result in
     let part = c.in-Ok.part in
     let b : BuildsTree g.N.Keeps F olds mids f (node_at T path) c.args.limit before c.build.new.rows part =
-        as_part (λ h U. BuildsTree g.N.Keeps F olds mids h U c.args.limit before c.build.new.rows part) (field_of c.part_at.result.now) f (named c.part_at.result.now) (node_at T path) own c.part_at.ensures.tree c.in-Ok.ensures.builds in
+    as_part (λ h U. BuildsTree g.N.Keeps F olds mids h U c.args.limit before c.build.new.rows part) (field_of c.part_at.result.now) f (named c.part_at.result.now) (node_at T path) own c.part_at.ensures.tree c.in-Ok.ensures.builds in
     part_changes g.N.Keeps (the_laws g) F olds mids f T R path c.args.limit before c.requires.beside c.rows_beside-rows.ensures.beside c.build.new.rows part b _ c.remake_above.result (subst (λ (G : Formula). Changes g.N.Keeps G mids (g.A.Automaton.lists c.remake_above.new.automaton) f T R path c.args.limit (c.build.new.rows + path_rows f (g.N.Keeps.query G) path T) c.remake_above.result) c.build.ensures.shape c.remake_above.ensures.changes)
 
 pub returns-in-Err-clause-changes : goal.returns-in-Err-clause-changes
@@ -91,4 +90,3 @@ returns-in-Err-clause-changes g c =
     let path = path_in c.args.at R in
     let own : field_of c.part_at.result.now ≡ f = over_field f c.part_at.result.now c.part_at.ensures.over in
     λ full. full_part g.N.Keeps (the_laws g) F olds olds f T R path c.args.limit c.rows_beside-rows.result c.requires.beside c.rows_beside-rows.ensures.beside (as_part (λ h U. Exceeds F olds (made h (g.N.Keeps.query F) (shape U)) (c.rows_beside-rows.result + made_rows h (g.N.Keeps.query F) (shape U)) c.args.limit) (field_of c.part_at.result.now) f (named c.part_at.result.now) (node_at T path) own c.part_at.ensures.tree (c.in-Err.ensures.builds full))
-

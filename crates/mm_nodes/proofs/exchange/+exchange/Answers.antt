@@ -1,4 +1,4 @@
-use Rattle.std.proofs.Common.{rules, ◌≡◌, ◌<◌, ◌≤◌, ◌+◌, ◌-◌, ◌^◌, ℕ, List, length, refl, sym, ap, ◌∙◌, subst, arith}
+use Rattle.std.proofs.Common.{rules, ◌≡◌, ◌<◌, ◌≤◌, ◌-◌, length, refl, sym, ap, ◌∙◌, subst, arith}
 use Rattle.mm_nodes.specs.KeptTrees.{KeptTree, count, row_sum, path_in, remade}
 use Rattle.mm_nodes.specs.KeptTrees.KeptTree.{Two}
 use Rattle.mm_nodes.specs.KeptNodes.{tree_of, IsCounted}
@@ -190,4 +190,3 @@ returns-else-at-first-clause-tree g t c =
     let d : tree_of c.deref_mut-else-at-first.result.now ≡ b = ap tree_of c.deref_mut-else-at-first.ensures.value in
     let part : tree_of c.exchange-part-else-at-first.new.kept ≡ remade (path_in (c.args.at - 1 - c.sums-first.result.nodes) b) b new later = c.exchange-part-else-at-first.ensures.tree ∙ ap (λ y. remade (path_in (c.args.at - 1 - c.sums-first.result.nodes) y) y new later) d in
     (λ i. Two (c.renew-else-at-first.ensures.entry i) a (part i)) ∙ sym whole
-

@@ -1,21 +1,16 @@
-use Rattle.std.proofs.Common.{rules, ◌≡◌, ◌<◌, ◌≤◌, ◌+◌, ℕ, List, [], length, refl, sym, ap, ◌∙◌, subst, arith}
-use Rattle.mm_field.specs.declared.Field.{Field}
-use Rattle.mm_logic.specs.Formula.{Formula}
+use Rattle.std.proofs.Common.{◌≡◌, ◌+◌, ℕ, List, [], sym, ap, subst, arith}
 use Rattle.mm_logic.specs.Value.{Value}
 use Rattle.mm_logic.specs.Occurrence.{nodes as parts, list_cells}
-use Rattle.mm_logic.specs.Growth.{root, AllGrown}
-use Rattle.mm_tree.specs.NamedTree.{Tree, shape, nodes}
+use Rattle.mm_logic.specs.Growth.{root}
+use Rattle.mm_tree.specs.NamedTree.{shape}
 use Rattle.mm_tree.specs.Nodes.{named, field_of}
-use Rattle.mm_tree.specs.Paths.{Path, node_at}
-use Rattle.mm_tree.specs.Places.{path_of}
-use Rattle.mm_tree.proofs.TreeLemmas.{over_field, few_nodes}
-use Rattle.mm_nodes.specs.KeptTrees.{KeptTree, count, path_in, row_sum, remade, StandsFor, StandsBeside}
+use Rattle.mm_tree.proofs.TreeLemmas.{over_field}
 use Rattle.mm_nodes.specs.KeptNodes.{tree_of}
-use Rattle.mm_nodes.specs.Demands.{Frame, IsWithin, made, made_rows}
-use Rattle.mm_nodes.specs.Calls.{CanWalk, Exceeds}
+use Rattle.mm_nodes.specs.Demands.{made, made_rows}
+use Rattle.mm_nodes.specs.Calls.{Exceeds}
 use Rattle.mm_nodes.specs.Walks.{BuildsTree}
-use Rattle.mm_nodes.specs.Changes.{ChangesKept, KeepsTree}
-use Rattle.mm_nodes.proofs.StandsLemmas.{Laws, stands-rows, stands-count}
+use Rattle.mm_nodes.specs.Changes.{KeepsTree}
+use Rattle.mm_nodes.proofs.StandsLemmas.{Laws, stands-rows}
 use Rattle.mm_nodes.proofs.ChangeLemmas.{root_walks, as_root}
 use Rattle.mm_logic.proofs.GrowthLemmas.{none_missing_cells}
 use Rattle.mm_nodes.proofs.RoomLemmas.{exact-then, exceeds_call, exceeds_part, exceeds_later}
@@ -57,7 +52,7 @@ returns-then-cells-rows-clause-full g c =
     let nows = g.A.Automaton.lists c.build.new.automaton in
     let kept = c.in-Ok.kept in
     let b : BuildsTree g.N.Keeps F olds nows f T c.args.limit 0 c.build.new.rows kept =
-        as_root (λ h U. BuildsTree g.N.Keeps F olds nows h U c.args.limit 0 c.build.new.rows kept) (field_of c.node.result.now) f (named c.node.result.now) T own c.node.ensures.tree c.in-Ok.ensures.builds in
+    as_root (λ h U. BuildsTree g.N.Keeps F olds nows h U c.args.limit 0 c.build.new.rows kept) (field_of c.node.result.now) f (named c.node.result.now) T own c.node.ensures.tree c.in-Ok.ensures.builds in
     let types : List Value = made f (g.N.Keeps.query F) (shape T) in
     let all = stands-rows g.N.Keeps (the_laws g) (record { f = f; F = F; lists = nows }) T (tree_of kept) b.stands in
     let rows = b.rows in
@@ -79,7 +74,7 @@ returns-else-cells-rows-clause-ok g c =
     let nows = g.A.Automaton.lists c.build.new.automaton in
     let kept = c.in-Ok.kept in
     let b : BuildsTree g.N.Keeps F olds nows f T c.args.limit 0 c.build.new.rows kept =
-        as_root (λ h U. BuildsTree g.N.Keeps F olds nows h U c.args.limit 0 c.build.new.rows kept) (field_of c.node.result.now) f (named c.node.result.now) T own c.node.ensures.tree c.in-Ok.ensures.builds in
+    as_root (λ h U. BuildsTree g.N.Keeps F olds nows h U c.args.limit 0 c.build.new.rows kept) (field_of c.node.result.now) f (named c.node.result.now) T own c.node.ensures.tree c.in-Ok.ensures.builds in
     let types : List Value = made f (g.N.Keeps.query F) (shape T) in
     let all = stands-rows g.N.Keeps (the_laws g) (record { f = f; F = F; lists = nows }) T (tree_of kept) b.stands in
     let rows = b.rows in
@@ -89,4 +84,3 @@ returns-else-cells-rows-clause-ok g c =
     subst (λ lists. KeepsTree g.N.Keeps F (root F olds) lists (g.A.Automaton.marked c.mark.new.self) f T c.args.limit kept) (sym c.mark.ensures.lists)
     (keeps_tree g.N.Keeps (the_laws g) F olds nows (g.A.Automaton.marked c.mark.new.self) f T c.args.limit kept c.requires.exact c.mark.ensures.marked c.requires.limited
     b.stands b.sums types b.grown (λ p e. e) (omega (arith, less, all, rows, same, is)))
-

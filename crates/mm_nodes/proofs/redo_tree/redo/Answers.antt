@@ -1,19 +1,13 @@
-use Rattle.std.proofs.Common.{rules, ◌≡◌, ◌<◌, ◌≤◌, ◌+◌, ℕ, List, length, refl, sym, ap, ◌∙◌, subst, arith}
-use Rattle.mm_field.specs.declared.Field.{Field}
-use Rattle.mm_logic.specs.Formula.{Formula}
-use Rattle.mm_logic.specs.Value.{Value}
-use Rattle.mm_logic.specs.Occurrence.{nodes as parts, list_cells}
-use Rattle.mm_logic.specs.Growth.{root, AllGrown}
-use Rattle.mm_tree.specs.NamedTree.{Tree, shape, nodes}
+use Rattle.std.proofs.Common.{◌≡◌, ◌<◌, length, sym, ap, ◌∙◌, subst, arith}
+use Rattle.mm_logic.specs.Growth.{root}
+use Rattle.mm_tree.specs.NamedTree.{shape, nodes}
 use Rattle.mm_tree.specs.Nodes.{named, field_of}
-use Rattle.mm_tree.specs.Paths.{Path, node_at}
-use Rattle.mm_tree.specs.Places.{path_of}
+use Rattle.mm_tree.specs.Paths.{node_at}
 use Rattle.mm_tree.proofs.TreeLemmas.{over_field, few_nodes}
-use Rattle.mm_nodes.specs.KeptTrees.{KeptTree, count, path_in, row_sum, remade, StandsFor, StandsBeside}
+use Rattle.mm_nodes.specs.KeptTrees.{KeptTree, count, path_in, remade, StandsFor, StandsBeside}
 use Rattle.mm_nodes.specs.KeptNodes.{tree_of}
-use Rattle.mm_nodes.specs.Demands.{Frame, IsWithin, made, made_rows}
-use Rattle.mm_nodes.specs.Calls.{CanWalk, Exceeds}
-use Rattle.mm_nodes.specs.Walks.{BuildsTree}
+use Rattle.mm_nodes.specs.Demands.{Frame, made, made_rows}
+use Rattle.mm_nodes.specs.Calls.{Exceeds}
 use Rattle.mm_nodes.specs.Changes.{ChangesKept, KeepsTree}
 use Rattle.mm_nodes.proofs.StandsLemmas.{Laws, stands-rows, stands-count}
 use Rattle.mm_nodes.proofs.ChangeLemmas.{root_walks, as_root}
@@ -103,9 +97,9 @@ put-requires-clause-few g c =
     let change = c.in-Ok.change in
     let made_at : path_in c.number.result R ≡ path_in k R = ap (λ j. path_in j R) c.number.ensures in
     let m : ChangesKept g.N.Keeps F olds nows f T R (path_in k R) c.args.limit (made_rows f (g.N.Keeps.query F) (shape T)) change =
-        as_root (λ h U. ChangesKept g.N.Keeps F olds nows h U R (path_in k R) c.args.limit (made_rows h (g.N.Keeps.query F) (shape U)) change) (field_of c.node.result.now) f (named c.node.result.now) T own c.node.ensures.tree
-        (subst (λ p. ChangesKept g.N.Keeps F olds nows (field_of c.node.result.now) (named c.node.result.now) R p c.args.limit (made_rows (field_of c.node.result.now) (g.N.Keeps.query F) (shape (named c.node.result.now))) change) made_at
-        c.in-Ok.ensures.changes) in
+    as_root (λ h U. ChangesKept g.N.Keeps F olds nows h U R (path_in k R) c.args.limit (made_rows h (g.N.Keeps.query F) (shape U)) change) (field_of c.node.result.now) f (named c.node.result.now) T own c.node.ensures.tree
+    (subst (λ p. ChangesKept g.N.Keeps F olds nows (field_of c.node.result.now) (named c.node.result.now) R p c.args.limit (made_rows (field_of c.node.result.now) (g.N.Keeps.query F) (shape (named c.node.result.now))) change) made_at
+    c.in-Ok.ensures.changes) in
     let fr : Frame = record { f = f; F = F; lists = nows } in
     let whole = remade (path_in k R) R (tree_of change.part) change.made.items in
     let rows = stands-rows g.N.Keeps (the_laws g) fr T whole m.stands in
@@ -131,9 +125,9 @@ put-requires-clause-nodes g c =
     let change = c.in-Ok.change in
     let made_at : path_in c.number.result R ≡ path_in k R = ap (λ j. path_in j R) c.number.ensures in
     let m : ChangesKept g.N.Keeps F olds nows f T R (path_in k R) c.args.limit (made_rows f (g.N.Keeps.query F) (shape T)) change =
-        as_root (λ h U. ChangesKept g.N.Keeps F olds nows h U R (path_in k R) c.args.limit (made_rows h (g.N.Keeps.query F) (shape U)) change) (field_of c.node.result.now) f (named c.node.result.now) T own c.node.ensures.tree
-        (subst (λ p. ChangesKept g.N.Keeps F olds nows (field_of c.node.result.now) (named c.node.result.now) R p c.args.limit (made_rows (field_of c.node.result.now) (g.N.Keeps.query F) (shape (named c.node.result.now))) change) made_at
-        c.in-Ok.ensures.changes) in
+    as_root (λ h U. ChangesKept g.N.Keeps F olds nows h U R (path_in k R) c.args.limit (made_rows h (g.N.Keeps.query F) (shape U)) change) (field_of c.node.result.now) f (named c.node.result.now) T own c.node.ensures.tree
+    (subst (λ p. ChangesKept g.N.Keeps F olds nows (field_of c.node.result.now) (named c.node.result.now) R p c.args.limit (made_rows (field_of c.node.result.now) (g.N.Keeps.query F) (shape (named c.node.result.now))) change) made_at
+    c.in-Ok.ensures.changes) in
     let fr : Frame = record { f = f; F = F; lists = nows } in
     let whole = remade (path_in k R) R (tree_of change.part) change.made.items in
     let rows = stands-rows g.N.Keeps (the_laws g) fr T whole m.stands in
@@ -157,9 +151,9 @@ put-requires-clause-rows g c =
     let change = c.in-Ok.change in
     let made_at : path_in c.number.result R ≡ path_in k R = ap (λ j. path_in j R) c.number.ensures in
     let m : ChangesKept g.N.Keeps F olds nows f T R (path_in k R) c.args.limit (made_rows f (g.N.Keeps.query F) (shape T)) change =
-        as_root (λ h U. ChangesKept g.N.Keeps F olds nows h U R (path_in k R) c.args.limit (made_rows h (g.N.Keeps.query F) (shape U)) change) (field_of c.node.result.now) f (named c.node.result.now) T own c.node.ensures.tree
-        (subst (λ p. ChangesKept g.N.Keeps F olds nows (field_of c.node.result.now) (named c.node.result.now) R p c.args.limit (made_rows (field_of c.node.result.now) (g.N.Keeps.query F) (shape (named c.node.result.now))) change) made_at
-        c.in-Ok.ensures.changes) in
+    as_root (λ h U. ChangesKept g.N.Keeps F olds nows h U R (path_in k R) c.args.limit (made_rows h (g.N.Keeps.query F) (shape U)) change) (field_of c.node.result.now) f (named c.node.result.now) T own c.node.ensures.tree
+    (subst (λ p. ChangesKept g.N.Keeps F olds nows (field_of c.node.result.now) (named c.node.result.now) R p c.args.limit (made_rows (field_of c.node.result.now) (g.N.Keeps.query F) (shape (named c.node.result.now))) change) made_at
+    c.in-Ok.ensures.changes) in
     let fr : Frame = record { f = f; F = F; lists = nows } in
     let whole = remade (path_in k R) R (tree_of change.part) change.made.items in
     let rows = stands-rows g.N.Keeps (the_laws g) fr T whole m.stands in
@@ -215,9 +209,9 @@ returns-in-Ok-clause-ok g c =
     let change = c.in-Ok.change in
     let made_at : path_in c.number.result R ≡ path_in k R = ap (λ j. path_in j R) c.number.ensures in
     let m : ChangesKept g.N.Keeps F olds nows f T R (path_in k R) c.args.limit (made_rows f (g.N.Keeps.query F) (shape T)) change =
-        as_root (λ h U. ChangesKept g.N.Keeps F olds nows h U R (path_in k R) c.args.limit (made_rows h (g.N.Keeps.query F) (shape U)) change) (field_of c.node.result.now) f (named c.node.result.now) T own c.node.ensures.tree
-        (subst (λ p. ChangesKept g.N.Keeps F olds nows (field_of c.node.result.now) (named c.node.result.now) R p c.args.limit (made_rows (field_of c.node.result.now) (g.N.Keeps.query F) (shape (named c.node.result.now))) change) made_at
-        c.in-Ok.ensures.changes) in
+    as_root (λ h U. ChangesKept g.N.Keeps F olds nows h U R (path_in k R) c.args.limit (made_rows h (g.N.Keeps.query F) (shape U)) change) (field_of c.node.result.now) f (named c.node.result.now) T own c.node.ensures.tree
+    (subst (λ p. ChangesKept g.N.Keeps F olds nows (field_of c.node.result.now) (named c.node.result.now) R p c.args.limit (made_rows (field_of c.node.result.now) (g.N.Keeps.query F) (shape (named c.node.result.now))) change) made_at
+    c.in-Ok.ensures.changes) in
     let fr : Frame = record { f = f; F = F; lists = nows } in
     let whole = remade (path_in k R) R (tree_of change.part) change.made.items in
     let rows = stands-rows g.N.Keeps (the_laws g) fr T whole m.stands in
@@ -241,4 +235,3 @@ returns-in-Err-clause-full g c =
     let own : field_of c.node.result.now ≡ f = over_field f c.node.result.now c.node.ensures.over in
     λ full. too_full g.N.Keeps F olds f T c.args.limit
     (as_root (λ h U. Exceeds F olds (made h (g.N.Keeps.query F) (shape U)) (made_rows h (g.N.Keeps.query F) (shape U)) c.args.limit) (field_of c.node.result.now) f (named c.node.result.now) T own c.node.ensures.tree (c.in-Err.ensures.changes full))
-

@@ -1,4 +1,4 @@
-use Rattle.std.proofs.Common.{rules, ◌≡◌, ◌<◌, ◌≤◌, ◌+◌, ◌-◌, ◌*◌, ℕ, List, [], ◌∷◌, length, Bool, true, false, not, Ok, Err, refl, sym, ap, ◌∙◌, subst, arith}
+use Rattle.std.proofs.Common.{rules, ◌≡◌, ◌<◌, ◌≤◌, ◌+◌, ◌-◌, [], ◌∷◌, length, Bool, true, false, not, refl, sym, ap, ◌∙◌, subst, arith}
 use Rattle.mm_tree.specs.NamedTree.{nodes}
 use Rattle.mm_tree.specs.Nodes.{named, field_of}
 use Rattle.mm_tree.proofs.TreeLemmas.{few_nodes}
@@ -8,7 +8,7 @@ use Rattle.mm_nodes.specs.KeptNodes.{tree_of, IsCounted}
 use Rattle.mm_nodes.specs.Calls.{CanWalk}
 use Rattle.mm_nodes.specs.Walks.{CanRemake, RemakesPath}
 use Rattle.mm_nodes.proofs.StandsLemmas.{Laws}
-use Rattle.mm_nodes.proofs.RoomLemmas.{exact-then, exact_none}
+use Rattle.mm_nodes.proofs.RoomLemmas.{exact_none}
 use Rattle.mm_nodes.proofs.WalkLemmas.{Meets, meets, meets_leaf, left_walks, right_walks, join_over, left_less, right_less}
 use Rattle.mm_nodes.proofs.RemakeLemmas.{path_here, at_place}
 use Rattle.mm_nodes.proofs.StepUpLemmas.{left_way, right_way, left_below, right_below, left_exact, right_exact, left_made_fits, right_made_fits, left_other_fits, right_other_fits, left_remakes, right_remakes, left_below_full, right_below_full, path_short, no_leaf}
@@ -35,7 +35,7 @@ returns-then-at-eq0-clause-remakes g t c =
     let changed = not c.looks_same.result in
     let here = path_here c.args.at R c.if-at-eq0.true in
     let same : changed ≡ false → g.N.Keeps.Same (top new) (top R) = λ e.
-        subst (λ n. g.N.Keeps.Same (top new) n) c.entry-then-at-eq0.ensures (subst (λ n. g.N.Keeps.Same n c.entry-then-at-eq0.result.now) c.entry.ensures (c.looks_same.ensures (not_false c.looks_same.result e))) in
+    subst (λ n. g.N.Keeps.Same (top new) n) c.entry-then-at-eq0.ensures (subst (λ n. g.N.Keeps.Same n c.entry-then-at-eq0.result.now) c.entry.ensures (c.looks_same.ensures (not_false c.looks_same.result e))) in
     subst (λ p. RemakesPath g.N.Keeps F lists lists f T R new p c.args.made.now.items c.args.limit c.args.rows.now c.args.rows.now changed) (sym here)
     (subst (λ ms. RemakesPath g.N.Keeps F lists lists f T R new [] ms c.args.limit c.args.rows.now c.args.rows.now changed) (sym c.requires.none)
     (at_place g.N.Keeps F lists f T R new c.args.limit c.args.rows.now changed (subst (λ p. CanRemake g.N.Keeps F lists f T R new p) here c.requires.parts) same (exact_none F lists c.requires.can.exact)
@@ -60,10 +60,10 @@ remake-requires g t c =
     let before : c.nodes-before.result ≡ count a = c.nodes-before.ensures ∙ ap (λ x. count (tree_of x)) c.deref.ensures in
     let turn : c.args.at - 1 < count a = subst (λ k. c.args.at - 1 < k) before c.if-at-before.true in
     let walks : CanWalk (g.A.Automaton.shape c.args.automaton.now) (g.A.Automaton.field c.args.automaton.now) (g.A.Automaton.lists c.args.automaton.now) c.args.limit c.deref-then-at-before.result.now =
-        left_walks _ _ _ _ (g.A.Automaton.lists c.args.automaton.now) _ c.args.limit c.args.node.now c.deref-then-at-before.result.now n op l.value r.value m c.requires.can refl refl c.requires.can.exact c.requires.can.cells c.deref-then-at-before.ensures in
+    left_walks _ _ _ _ (g.A.Automaton.lists c.args.automaton.now) _ c.args.limit c.args.node.now c.deref-then-at-before.result.now n op l.value r.value m c.requires.can refl refl c.requires.can.exact c.requires.can.cells c.deref-then-at-before.ensures in
     let less : nodes (named c.deref-then-at-before.result.now) < nodes (named c.args.node.now) = left_less c.args.node.now n op l.value r.value m c.deref-then-at-before.result.now c.deref-then-at-before.ensures in
     let below : CanRemake g.N.Keeps (g.A.Automaton.shape c.args.automaton.now) (g.A.Automaton.lists c.args.automaton.now) (field_of c.deref-then-at-before.result.now) (named c.deref-then-at-before.result.now) (tree_of c.deref-then-at-before-2.result.now) (tree_of c.args.new.now) (path_in (c.args.at - 1) (tree_of c.deref-then-at-before-2.result.now)) =
-        left_below g.N.Keeps (the_laws g) (g.A.Automaton.shape c.args.automaton.now) c.args.node.now n op l.value r.value m R (tree_of c.args.new.now) c.in-Two.above.entry a b kept c.args.at c.if-at-eq0.false turn (c.args.at - 1) refl (g.A.Automaton.lists c.args.automaton.now) c.requires.parts c.deref-then-at-before.result.now (tree_of c.deref-then-at-before-2.result.now) c.deref-then-at-before.ensures (ap tree_of c.deref-then-at-before-2.ensures) in
+    left_below g.N.Keeps (the_laws g) (g.A.Automaton.shape c.args.automaton.now) c.args.node.now n op l.value r.value m R (tree_of c.args.new.now) c.in-Two.above.entry a b kept c.args.at c.if-at-eq0.false turn (c.args.at - 1) refl (g.A.Automaton.lists c.args.automaton.now) c.requires.parts c.deref-then-at-before.result.now (tree_of c.deref-then-at-before-2.result.now) c.deref-then-at-before.ensures (ap tree_of c.deref-then-at-before-2.ensures) in
     let sums = subst (IsCounted g.N.Keeps.rows) c.in-Two.is c.requires.counted in
     let counted : IsCounted g.N.Keeps.rows c.deref-then-at-before-2.result.now = subst (IsCounted g.N.Keeps.rows) (sym c.deref-then-at-before-2.ensures) sums.2 in
     let here : count (tree_of c.deref-then-at-before-2.result.now) ≡ count a = ap (λ x. count (tree_of x)) c.deref-then-at-before-2.ensures in
@@ -238,10 +238,10 @@ remake-requires-else-at-before g t c =
     let turn : count a ≤ c.args.at - 1 = subst (λ k. k ≤ c.args.at - 1) before c.if-at-before.false in
     let lower : c.args.at - 1 - c.nodes-before.result ≡ c.args.at - 1 - count a = ap (λ k. c.args.at - 1 - k) before in
     let walks : CanWalk (g.A.Automaton.shape c.args.automaton.now) (g.A.Automaton.field c.args.automaton.now) (g.A.Automaton.lists c.args.automaton.now) c.args.limit c.deref-else-at-before.result.now =
-        right_walks _ _ _ _ (g.A.Automaton.lists c.args.automaton.now) _ c.args.limit c.args.node.now c.deref-else-at-before.result.now n op l.value r.value m c.requires.can refl refl c.requires.can.exact c.requires.can.cells c.deref-else-at-before.ensures in
+    right_walks _ _ _ _ (g.A.Automaton.lists c.args.automaton.now) _ c.args.limit c.args.node.now c.deref-else-at-before.result.now n op l.value r.value m c.requires.can refl refl c.requires.can.exact c.requires.can.cells c.deref-else-at-before.ensures in
     let less : nodes (named c.deref-else-at-before.result.now) < nodes (named c.args.node.now) = right_less c.args.node.now n op l.value r.value m c.deref-else-at-before.result.now c.deref-else-at-before.ensures in
     let below : CanRemake g.N.Keeps (g.A.Automaton.shape c.args.automaton.now) (g.A.Automaton.lists c.args.automaton.now) (field_of c.deref-else-at-before.result.now) (named c.deref-else-at-before.result.now) (tree_of c.deref-else-at-before-2.result.now) (tree_of c.args.new.now) (path_in (c.args.at - 1 - c.nodes-before.result) (tree_of c.deref-else-at-before-2.result.now)) =
-        right_below g.N.Keeps (the_laws g) (g.A.Automaton.shape c.args.automaton.now) c.args.node.now n op l.value r.value m R (tree_of c.args.new.now) c.in-Two.above.entry a b kept c.args.at c.if-at-eq0.false turn (c.args.at - 1 - c.nodes-before.result) lower (g.A.Automaton.lists c.args.automaton.now) c.requires.parts c.deref-else-at-before.result.now (tree_of c.deref-else-at-before-2.result.now) c.deref-else-at-before.ensures (ap tree_of c.deref-else-at-before-2.ensures) in
+    right_below g.N.Keeps (the_laws g) (g.A.Automaton.shape c.args.automaton.now) c.args.node.now n op l.value r.value m R (tree_of c.args.new.now) c.in-Two.above.entry a b kept c.args.at c.if-at-eq0.false turn (c.args.at - 1 - c.nodes-before.result) lower (g.A.Automaton.lists c.args.automaton.now) c.requires.parts c.deref-else-at-before.result.now (tree_of c.deref-else-at-before-2.result.now) c.deref-else-at-before.ensures (ap tree_of c.deref-else-at-before-2.ensures) in
     let sums = subst (IsCounted g.N.Keeps.rows) c.in-Two.is c.requires.counted in
     let counted : IsCounted g.N.Keeps.rows c.deref-else-at-before-2.result.now = subst (IsCounted g.N.Keeps.rows) (sym c.deref-else-at-before-2.ensures) sums.3 in
     let here : count (tree_of c.deref-else-at-before-2.result.now) ≡ count b = ap (λ x. count (tree_of x)) c.deref-else-at-before-2.ensures in
@@ -368,4 +368,3 @@ returns-in-Err-remake-clause-remakes g t c =
     let turn : count a ≤ c.args.at - 1 = subst (λ k. k ≤ c.args.at - 1) before c.if-at-before.false in
     let lower : c.args.at - 1 - c.nodes-before.result ≡ c.args.at - 1 - count a = ap (λ k. c.args.at - 1 - k) before in
     λ full. right_below_full g.N.Keeps (the_laws g) (g.A.Automaton.shape c.args.automaton.now) c.args.node.now n op l.value r.value m R (tree_of c.args.new.now) c.in-Two.above.entry a b kept c.args.at c.if-at-eq0.false turn (c.args.at - 1 - c.nodes-before.result) lower (g.A.Automaton.lists c.args.automaton.now) c.requires.parts (g.A.Automaton.lists c.remake-else-at-before.new.automaton) c.args.limit c.args.rows.now c.remake-else-at-before.new.rows c.remake-else-at-before.new.made.items c.deref-else-at-before.result.now (tree_of c.deref-else-at-before-2.result.now) c.deref-else-at-before.ensures (ap tree_of c.deref-else-at-before-2.ensures) (c.in-Err-remake.ensures.remakes full)
-
