@@ -34,11 +34,11 @@ Changes K F olds nows f T R path limit total (Err e) = e ≡ Full → Exceeds F 
 
 -- Between calls: the lists are exactly the values that occur in the types of the root, the last mark is at them, each subtree knows its
 -- sums, and cells and rows are within the limit.
-pub record IsSettled {N : Type 0} (K : Ghosts N) (F : Formula) (lists marked : List (List Value)) (limit : ℕ) (kept : Kept N) : Type 0 where
+pub record IsSettled {N : Type 0} (row_count : N → ℕ) (F : Formula) (lists marked : List (List Value)) (limit : ℕ) (kept : Kept N) : Type 0 where
   pub exact : IsExact F lists
   pub mark : marked ≡ lists
-  pub sums : IsCounted K.rows kept
-  pub within : list_cells (nodes F) lists + row_sum K.rows (tree_of kept) ≤ limit
+  pub sums : IsCounted row_count kept
+  pub within : list_cells (nodes F) lists + row_sum row_count (tree_of kept) ≤ limit
   pub limited : limit ≤ MAX_LIMIT
 
 -- What is kept stands for T, the types before are followed by exactly those of T that were missing, each once, and all is settled.
@@ -46,7 +46,7 @@ pub record KeepsTree {N : Type 0} (K : Ghosts N) (F : Formula) (before : List Va
   pub stands : StandsFor (K.IsLeaf (record { f = f; F = F; lists = lists })) (K.IsJoin (record { f = f; F = F; lists = lists })) T (tree_of kept)
   pub grown : Grown before (root F lists) (made f (K.query F) (shape T))
   pub fits : cells F (before ++ made f (K.query F) (shape T)) + made_rows f (K.query F) (shape T) ≤ limit
-  pub settled : IsSettled K F lists marked limit kept
+  pub settled : IsSettled K.rows F lists marked limit kept
 
 -- The cells of the types before with those of T, and the rows of T, exceed the limit.
 abbrev pub IsFull : Formula → Query → List Value → Field → Tree → ℕ → Type 0

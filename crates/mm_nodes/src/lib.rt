@@ -14,7 +14,7 @@ pub use kept::Kept;
 pub use redo_tree::{of, redo};
 
 /// The greatest limit on state sizes.
-const MAX_LIMIT: u64 = 4_194_304;
+pub const MAX_LIMIT: u64 = 4_194_304;
 
 /// More rows than any walk counts: the limit, and the rows of one entry.
 const MOST_ROWS: u64 = 8_589_934_592;

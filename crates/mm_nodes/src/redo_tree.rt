@@ -68,7 +68,7 @@ pub fn redo<N: Keeps, A: Automaton, L: Ledger>(
     place: &Place,
     steps: &mut Steps<L>,
 ) -> Result<(), KeepFault>
-    requires settled { IsSettled N.Keeps (A.shape automaton.old) (A.lists automaton.old) (A.marked automaton.old) limit kept.old }
+    requires settled { IsSettled N.rows (A.shape automaton.old) (A.lists automaton.old) (A.marked automaton.old) limit kept.old }
     requires over { letters.IsOver (A.shape automaton.old) (A.field automaton.old) after.now.f }
     requires place { IsPlaceOf after.now.tree place.now }
     requires beside { StandsBeside (N.IsLeaf (record { f = after.now.f; F = A.shape automaton.old; lists = A.lists automaton.old })) (N.IsJoin (record { f = after.now.f; F = A.shape automaton.old; lists = A.lists automaton.old })) (path_of place.now.number after.now.tree) after.now.tree (tree_of kept.old) }

@@ -1,6 +1,7 @@
 -- The laws of runs.
-use Rattle.std.proofs.Common.{rules, ◌≡◌, ◌<◌, ◌≤◌, ℕ, zero, suc, Bool, true, false, ◌||◌, List, [], ◌∷◌, ◌++◌, length, get_or, refl, sym, ap, ◌∙◌, subst, arith}
+use Rattle.std.proofs.Common.{rules, ◌≡◌, ◌<◌, ◌≤◌, ℕ, zero, suc, Bool, true, false, ◌||◌, ◌+◌, ◌-◌, take, drop, List, [], ◌∷◌, ◌++◌, length, get_or, refl, sym, ap, ◌∙◌, subst, arith}
 use Rattle.std.specs.List.{list_any}
+use Rattle.std.proofs.lemmas.List.{take-replicate, drop-replicate}
 use Rattle.mm_field.specs.declared.Field.{Field}
 use Rattle.mm_logic.specs.Formula.{Formula}
 use Rattle.mm_logic.specs.Operator.{Op}
@@ -12,7 +13,7 @@ use Rattle.mm_logic.specs.StateSize.{Query, asked}
 use Rattle.mm_logic.specs.StateSize.Query.{Decide}
 use Rattle.mm_logic.specs.Growth.{root, type_at, AllBegin}
 use Rattle.mm_logic.specs.JoinRule.{join_type, all_pairs, joined, lettered}
-use Rattle.mm_logic.specs.Marks.{unmarked}
+use Rattle.mm_logic.specs.Marks.{unmarked, no_marks}
 use Rattle.mm_logic.specs.Tree.{size}
 use Rattle.mm_logic.specs.Tree as shapes
 use Rattle.mm_logic.specs.PossibleValues.{IsValueOf}
@@ -46,19 +47,24 @@ value_within [] id d h = absurd (omega (arith, h))
 value_within (v ∷ vs) zero d h = λ p e. one_test (p v) (list_any p vs) e
 value_within (v ∷ vs) (suc id) d h = λ p e. later_test (p v) (p (get_or vs id d)) (list_any p vs) (value_within vs id d (omega (arith, h)) p) e
 
+-- the types of a formula that is decided, at a tree: the one that is joined from the leaves upwards
+pub decided : (f : Field) (F : Formula) (S : shapes.Tree) → types_by_rules f (Decide F) S ≡ joined f F (lettered S (unmarked (size S))) ∷ []
+decided f F (shapes.Tree.Elem vec) = refl
+decided f F (shapes.Tree.Void t) = refl
+decided f F (shapes.Tree.Join op l r) =
+    let left : take (size l) (unmarked (size l + size r)) ≡ unmarked (size l) = take-replicate (size l) (size l + size r) no_marks (omega arith) in
+    let rest : size l + size r - size l ≡ size r = omega arith in
+    let right : drop (size l) (unmarked (size l + size r)) ≡ unmarked (size r) =
+        drop-replicate (size l) (size l + size r) no_marks ∙ ap unmarked rest in
+    (λ i. all_pairs (join_type f F op) (decided f F l i) (decided f F r i))
+    ∙ (λ i. join_type f F op (joined f F (lettered l (sym left i))) (joined f F (lettered r (sym right i))) ∷ [])
+
 pub leaf_has : (fr : Frame) (T : Tree) (id : ℕ) → IsLeafRun fr T id → HasTypes fr.F fr.lists (type_at fr.F fr.lists id ∷ []) 1 (types_by_rules fr.f (Decide fr.F) (shape T))
-unfolding shape
-leaf_has fr (Elem name vec weight) id h = record {
-  types = λ p. ap (λ v. list_any p (v ∷ [])) h.value;
-  counted = refl;
+leaf_has fr T id h = record {
+  types = λ p. ap (λ v. list_any p (v ∷ [])) h.value ∙ ap (list_any p) (sym (decided fr.f fr.F (shape T)));
+  counted = ap (λ vs. length (distinct vs)) (sym (decided fr.f fr.F (shape T)));
   kept = value_within (root fr.F fr.lists) id Dead h.within;
 }
-leaf_has fr (Void name t) id h = record {
-  types = λ p. ap (λ v. list_any p (v ∷ [])) h.value;
-  counted = refl;
-  kept = value_within (root fr.F fr.lists) id Dead h.within;
-}
-leaf_has fr (Join name op l r) id h = ?
 
 pub join_has : (fr : Frame) (op : Op) (i j id : ℕ) → IsJoinRun fr op i j id
     → HasTypes fr.F fr.lists (type_at fr.F fr.lists id ∷ []) 1 (all_pairs (join_type fr.f fr.F op) (type_at fr.F fr.lists i ∷ []) (type_at fr.F fr.lists j ∷ []))

@@ -15,7 +15,7 @@ ghost use Rattle.mm_tree.specs.NamedTree.{Tree, shape};
 ghost use Rattle.mm_tree.specs.Nodes.{named_leaf};
 ghost use Rattle.mm_nodes.specs.Demands.{Frame};
 ghost use Rattle.mm_nodes.specs.Calls.{CanMakeLeaf};
-ghost use Rattle.mm_runs.specs.RunCalls.{IsLeafRun, IsJoinRun, Runs, IsRunOf};
+ghost use Rattle.mm_runs.specs.RunCalls.{IsLeafRun, IsJoinRun, Runs, IsRunOf, IsLetterOf};
 ghost use Rattle.mm_runs.specs.RunLaws.{asks, leaf_has, join_has, fits, leaf_stays, join_stays, same_left, same_right};
 
 use crate::RunFault;
@@ -59,13 +59,7 @@ impl NodeRun {
         ensures runs { Runs (A.shape automaton.old) (joined leaf.now.field (A.shape automaton.old) (lettered (shape (named_leaf leaf.now)) (unmarked (size (shape (named_leaf leaf.now)))))) (A.lists automaton.old) (A.lists automaton.new) room result }
     {
         steps.tick();
-        let letter = Letter {
-            field: leaf.field,
-            t: leaf.t,
-            vec: leaf.item.map(|item| item.vec),
-            marks: 0,
-        };
-        run_of(automaton.leaf(alloc, &letter, room))
+        run_of(automaton.leaf(alloc, &letter_of(leaf), room))
     }
 
     /// The run of a join. `Full` exactly where the automaton's call is.
@@ -94,6 +88,21 @@ impl NodeRun {
         ensures { result ≡ self.now }
     {
         self.id
+    }
+}
+
+/// What a leaf shows: its vector, without marks.
+fn letter_of(leaf: &Leaf) -> Letter
+    ensures { IsLetterOf leaf.now result }
+{
+    Letter {
+        field: leaf.field,
+        t: leaf.t,
+        vec: match leaf.item {
+            Some(item) => Some(item.vec),
+            None => None,
+        },
+        marks: 0,
     }
 }
 
