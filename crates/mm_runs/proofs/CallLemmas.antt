@@ -1,17 +1,15 @@
 -- From the automaton's answers to runs.
-use Rattle.std.proofs.Common.{rules, ◌≡◌, ◌<◌, ◌≤◌, ◌+◌, ◌==◌, ℕ, Bool, false, List, [], ◌∷◌, length, Option, Some, None, Result, Ok, Err, refl, sym, ap, ◌∙◌, subst, arith}
-use Rattle.std.specs.Int.{bit_at}
+use Rattle.std.proofs.Common.{◌≡◌, ◌<◌, ◌≤◌, ◌+◌, ◌==◌, ℕ, List, [], ◌∷◌, length, Option, Some, None, Result, Ok, Err, refl, sym, ap, ◌∙◌, subst, arith}
 use Rattle.std.proofs.lemmas.Nat.Bits.{bit_at-zero}
 use Rattle.mm_field.specs.declared.Field.{Field}
 use Rattle.mm_logic.specs.Formula.{Formula}
 use Rattle.mm_logic.specs.Value.{Value}
-use Rattle.mm_logic.specs.Marks.{Marks, no_marks, unmarked}
+use Rattle.mm_logic.specs.Marks.{no_marks, unmarked}
 use Rattle.mm_logic.specs.Tree.{size}
 use Rattle.mm_logic.specs.Occurrence.{occurring, distinct}
 use Rattle.mm_logic.specs.StateSize.Query.{Decide}
 use Rattle.mm_logic.specs.JoinRule.{joined, lettered, join_type}
-use Rattle.mm_logic.specs.LeafRule.{elem_type, void_type}
-use Rattle.mm_logic.specs.Growth.{root, type_at, missing_cells, AllGrown}
+use Rattle.mm_logic.specs.Growth.{root, missing_cells, AllGrown}
 use Rattle.mm_logic.proofs.GrowthLemmas.{AllBegin-grown, type_at-begins, within-begins}
 use Rattle.mm_logic_laws.specs.ValueLaws.{types_by_rules}
 use Rattle.mm_ops.specs.OpValue.{OpValue}
@@ -27,8 +25,7 @@ use Rattle.mm_tree.specs.ValidTree.{IsValidTree}
 use Rattle.mm_tree.specs.declared.node.Item.{Item}
 use Rattle.mm_tree.specs.declared.node.Leaf.{Leaf}
 use Rattle.mm_tree.specs.declared.node.Node as nodes_of
-use Rattle.mm_nodes.specs.Demands.{Frame}
-use Rattle.mm_nodes.specs.Calls.{CanMakeLeaf, MakesEntry, Makes}
+use Rattle.mm_nodes.specs.Calls.{CanMakeLeaf, Makes}
 use Rattle.mm_nodes.specs.declared.keeps.KeepFault.{KeepFault}
 use Rattle.mm_nodes.specs.declared.keeps.KeepFault.TheVariants.{Full}
 use Rattle.mm_runs.specs.RunCalls.{IsLeafRun, IsJoinRun, IsLetterOf, Runs, IsRunOf, vec_of}

@@ -1,5 +1,5 @@
 -- The laws of runs.
-use Rattle.std.proofs.Common.{rules, ◌≡◌, ◌<◌, ◌≤◌, ℕ, zero, suc, Bool, true, false, ◌||◌, ◌+◌, ◌-◌, take, drop, List, [], ◌∷◌, ◌++◌, length, get_or, refl, sym, ap, ◌∙◌, subst, arith}
+use Rattle.std.proofs.Common.{◌≡◌, ◌<◌, ℕ, zero, suc, Bool, true, false, ◌||◌, ◌+◌, ◌-◌, take, drop, List, [], ◌∷◌, length, get_or, refl, sym, ap, ◌∙◌, subst, arith}
 use Rattle.std.specs.List.{list_any}
 use Rattle.std.proofs.lemmas.List.{take-replicate, drop-replicate}
 use Rattle.mm_field.specs.declared.Field.{Field}
@@ -7,9 +7,8 @@ use Rattle.mm_logic.specs.Formula.{Formula}
 use Rattle.mm_logic.specs.Operator.{Op}
 use Rattle.mm_logic.specs.Value.{Value}
 use Rattle.mm_logic.specs.Value.Value.{Dead}
-use Rattle.mm_logic.specs.Order.{SameMembers}
 use Rattle.mm_logic.specs.Occurrence.{distinct}
-use Rattle.mm_logic.specs.StateSize.{Query, asked}
+use Rattle.mm_logic.specs.StateSize.{asked}
 use Rattle.mm_logic.specs.StateSize.Query.{Decide}
 use Rattle.mm_logic.specs.Growth.{root, type_at, AllBegin}
 use Rattle.mm_logic.specs.JoinRule.{join_type, all_pairs, joined, lettered}
@@ -55,7 +54,7 @@ decided f F (shapes.Tree.Join op l r) =
     let left : take (size l) (unmarked (size l + size r)) ≡ unmarked (size l) = take-replicate (size l) (size l + size r) no_marks (omega arith) in
     let rest : size l + size r - size l ≡ size r = omega arith in
     let right : drop (size l) (unmarked (size l + size r)) ≡ unmarked (size r) =
-        drop-replicate (size l) (size l + size r) no_marks ∙ ap unmarked rest in
+    drop-replicate (size l) (size l + size r) no_marks ∙ ap unmarked rest in
     (λ i. all_pairs (join_type f F op) (decided f F l i) (decided f F r i))
     ∙ (λ i. join_type f F op (joined f F (lettered l (sym left i))) (joined f F (lettered r (sym right i))) ∷ [])
 

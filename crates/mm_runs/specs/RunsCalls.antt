@@ -9,7 +9,7 @@ use Rattle.mm_logic.specs.Growth.{root, Grown}
 use Rattle.mm_tree.specs.NamedTree.{Tree, shape}
 use Rattle.mm_tree.specs.Paths.{Path}
 use Rattle.mm_nodes.specs.KeptTrees.{KeptTree, StandsFor, StandsBeside}
-use Rattle.mm_nodes.specs.Demands.{Frame, IsExact, made, made_rows}
+use Rattle.mm_nodes.specs.Demands.{IsExact, made, made_rows}
 use Rattle.mm_runs.specs.RunCalls.{IsLeafRun, IsJoinRun}
 
 -- The runs stand for a tree: at each node the number of the type that is joined there.

@@ -22,7 +22,7 @@ use crate::RunFault;
 use mm_base::Steps;
 use mm_nodes::Keeps;
 use mm_ops::Op;
-use mm_states::{Automaton, AutoFault, Letter, TypeId};
+use mm_states::{AutoFault, Automaton, Letter, TypeId};
 use mm_tree::Leaf;
 use std::alloc::Global;
 use std::marker::Model;

@@ -1,4 +1,4 @@
-use Rattle.std.proofs.Common.{◌≡◌, List, [], sym, ap, subst}
+use Rattle.std.proofs.Common.{◌≡◌, List, [], sym, subst}
 use Rattle.mm_logic.specs.Formula.{Formula}
 use Rattle.mm_logic.specs.Value.{Value}
 use Rattle.mm_logic.specs.Growth.{root}

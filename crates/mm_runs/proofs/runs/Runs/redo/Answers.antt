@@ -1,4 +1,4 @@
-use Rattle.std.proofs.Common.{◌≡◌, List, sym, ap, subst}
+use Rattle.std.proofs.Common.{◌≡◌, sym, subst}
 use Rattle.std.specs.Prelude.{OnOk, IfErr}
 use Rattle.mm_logic.specs.Formula.{Formula}
 use Rattle.mm_logic.specs.Growth.{root}
@@ -29,12 +29,12 @@ invariant_of-self g c =
 pub returns-clause-ok : goal.returns-clause-ok
 returns-clause-ok g c =
     subst (λ (v : RunsValue g.row.A.Denot).
-        OnOk c.redo.result (KeepRuns (g.A.Automaton.shape v.automaton) (root (g.A.Automaton.shape v.automaton) (g.A.Automaton.lists v.automaton)) (g.A.Automaton.lists c.redo.new.automaton)
-        (g.A.Automaton.marked c.redo.new.automaton) c.args.after.now.f c.args.after.now.tree v.limit (tree_of c.redo.new.kept))) c.self.view_is
+    OnOk c.redo.result (KeepRuns (g.A.Automaton.shape v.automaton) (root (g.A.Automaton.shape v.automaton) (g.A.Automaton.lists v.automaton)) (g.A.Automaton.lists c.redo.new.automaton)
+    (g.A.Automaton.marked c.redo.new.automaton) c.args.after.now.f c.args.after.now.tree v.limit (tree_of c.redo.new.kept))) c.self.view_is
     (on_ok c.redo.result c.redo.ensures.ok (λ h. record { stands = h.stands; grown = h.grown; exact = h.settled.exact; mark = h.settled.mark; fits = h.fits }))
 
 pub returns-clause-full : goal.returns-clause-full
 returns-clause-full g c =
     subst (λ (v : RunsValue g.row.A.Denot).
-        IfErr c.redo.result (λ e. e ≡ Full → IsFull (g.A.Automaton.shape v.automaton) (Decide (g.A.Automaton.shape v.automaton))
-        (root (g.A.Automaton.shape v.automaton) (g.A.Automaton.lists v.automaton)) c.args.after.now.f c.args.after.now.tree v.limit)) c.self.view_is c.redo.ensures.full
+    IfErr c.redo.result (λ e. e ≡ Full → IsFull (g.A.Automaton.shape v.automaton) (Decide (g.A.Automaton.shape v.automaton))
+    (root (g.A.Automaton.shape v.automaton) (g.A.Automaton.lists v.automaton)) c.args.after.now.f c.args.after.now.tree v.limit)) c.self.view_is c.redo.ensures.full
