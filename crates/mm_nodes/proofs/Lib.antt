@@ -1,0 +1,13 @@
+pub mod RoomLemmas
+pub mod EntryLemmas
+pub mod StandsLemmas
+pub mod BuildLemmas
+pub mod WalkLemmas
+pub mod NodeLemmas
+pub mod MadeLemmas
+pub mod RemakeLemmas
+pub mod StepUpLemmas
+pub mod ExchangeLemmas
+pub mod KeptTypeLemmas
+pub mod ChangeLemmas
+pub mod TreeKeptLemmas

@@ -1,0 +1,70 @@
+-- Runs of a whole tree.
+use Rattle.std.proofs.Common.{◌≡◌, ◌<◌, ◌≤◌, ℕ, List, [], ◌∷◌, map, length, Result, Ok, Err, refl, sym, ap, ◌∙◌, subst, arith}
+use Rattle.mm_field.specs.declared.Field.{Field}
+use Rattle.mm_logic.specs.Formula.{Formula}
+use Rattle.mm_logic.specs.Formula.Formula.{Const, Ind, Member, SameElem, Sub, SameSet, Not, Bin, ExSet, AllSet, ExElem, AllElem}
+use Rattle.mm_logic.specs.Value.{Value}
+use Rattle.mm_logic.specs.Occurrence.{nodes as parts, occurring, list_cells}
+use Rattle.mm_logic.specs.Growth.{root, no_values, AllGrown}
+use Rattle.mm_logic.proofs.GrowthLemmas.{AllGrown-none}
+use Rattle.mm_logic.proofs.OccurrenceLemmas.{cells-none}
+use Rattle.std.specs.Prelude.{OnOk, OnErr}
+use Rattle.mm_tree.specs.NamedTree.{Tree}
+use Rattle.mm_tree.specs.NamedTree.Tree.{Elem, Void, Join}
+use Rattle.mm_nodes.specs.KeptTrees.{KeptTree, top}
+use Rattle.mm_nodes.specs.KeptTrees.KeptTree.{One, Two}
+use Rattle.mm_nodes.specs.Demands.{IsExact}
+use Rattle.mm_runs.specs.RunsView.{AreBelow}
+use Rattle.mm_runs.specs.RunsCalls.{StandFor}
+
+pub root_none : (F : Formula) → root F (no_values F) ≡ []
+root_none (Const b) = refl
+root_none (Ind t) = refl
+root_none (Member x a) = refl
+root_none (SameElem x y) = refl
+root_none (Sub a b) = refl
+root_none (SameSet a b) = refl
+root_none (Not F) = root_none F
+root_none (Bin o F G) = refl
+root_none (ExSet k F) = refl
+root_none (AllSet k F) = refl
+root_none (ExElem k F) = refl
+root_none (AllElem k F) = refl
+
+abbrev the_none : List Value
+the_none = []
+
+none_long : (Fs : List Formula) → length (map (λ (G : Formula). the_none) Fs) ≡ length Fs
+none_long [] = refl
+none_long (F ∷ Fs) = let e = none_long Fs in omega (arith, e)
+
+-- empty lists are exact
+pub exact_empty : (F : Formula) (lists : List (List Value)) → lists ≡ no_values F → IsExact F lists
+exact_empty F lists e =
+    subst (IsExact F) (sym e)
+    (subst (λ vs. AllGrown (no_values F) (no_values F) (occurring F vs)) (sym (root_none F))
+    (AllGrown-none F (no_values F) (let many = none_long (parts F) in omega (arith, many))))
+
+pub empty_cells : (F : Formula) (lists : List (List Value)) (limit : ℕ) → lists ≡ no_values F → list_cells (parts F) lists ≤ limit
+empty_cells F lists limit e = let none = ap (list_cells (parts F)) e ∙ cells-none F in omega (arith, none)
+
+pub below : (f : Field) (F : Formula) (lists : List (List Value)) (T : Tree) (R : KeptTree ℕ) → StandFor f F lists T R → AreBelow (length (root F lists)) R
+below f F lists (Elem name vec weight) (One id) s = s.within
+below f F lists (Void name t) (One id) s = s.within
+below f F lists (Join name op l r) (Two id a b) s = (s.0.within, below f F lists l a s.1, below f F lists r b s.2)
+below f F lists (Elem name vec weight) (Two id a b) s = absurd s
+below f F lists (Void name t) (Two id a b) s = absurd s
+below f F lists (Join name op l r) (One id) s = absurd s
+
+pub top_below : (n : ℕ) (R : KeptTree ℕ) → AreBelow n R → top R < n
+top_below n (One id) s = s
+top_below n (Two id a b) s = s.0
+
+-- what holds after an Ok, and after a refusal
+pub by_result : {E : Type 0} {P Q X Y Z : Type 0} (r : Result (Unit {0}) E) → OnOk r P → (P → Q) → OnErr r X → OnErr r Y → OnErr r Z → (X → Y → Z → Q) → Q
+by_result (Ok u) p f x y z g = f p
+by_result (Err e) p f x y z g = g x y z
+
+pub on_ok : {E : Type 0} {P Q : Type 0} (r : Result (Unit {0}) E) → OnOk r P → (P → Q) → OnOk r Q
+on_ok (Ok u) p f = f p
+on_ok (Err e) p f = tt

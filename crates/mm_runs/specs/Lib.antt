@@ -1,0 +1,5 @@
+pub mod RunCalls
+pub mod RunLaws
+pub mod RunsValue
+pub mod RunsView
+pub mod RunsCalls
