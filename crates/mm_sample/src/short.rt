@@ -1,0 +1,89 @@
+//! What is shown of the lines of a job.
+
+ghost use Rattle.std.specs.Prelude.{◌≡◌, ◌<◌, ◌^◌, ◌++◌, IfOk, OnOk, length};
+ghost use Rattle.std.specs.List.{slice_split};
+ghost use Rattle.mm_lines.specs.Lines.{is_newline};
+ghost use Rattle.mm_sample.specs.Summary.{AreLines, first_line, last_line, short_line, summary};
+
+use crate::numbers::append_number;
+use mm_base::{NoMemory, Text};
+use mm_lines::Tokens;
+use std::alloc::Global;
+
+/// How many lines there are, and the first and the last one: of a line with a least set the number of its elements is shown in
+/// place of their names.
+#[tactic(auto, unfolding(crate::specs::Summary::summary))]
+pub fn summary(alloc: Global, out: &[u8]) -> Result<Text, NoMemory>
+    requires { AreLines out.now }
+    ensures { IfOk result (λ text. text ≡ summary out.now) }
+{
+    let lines = &out[..out.len() - 1];
+    let mut text = Text::new(alloc);
+    text.append(alloc, b"answers ")?;
+    append_number(alloc, &mut text, line_count(lines))?;
+    text.append(alloc, b"\nfirst ")?;
+    append_short(alloc, &mut text, first_line(lines))?;
+    text.append(alloc, b"\nlast ")?;
+    append_short(alloc, &mut text, last_line(lines))?;
+    text.append(alloc, b"\n")?;
+    Ok(text)
+}
+
+/// How many lines there are, with a newline between each two.
+fn line_count(lines: &[u8]) -> u64
+    requires { length lines.now < 2 ^ 63 }
+    ensures { result ≡ length (slice_split is_newline lines.now) }
+{
+    let newlines = lines.iter().filter(|b| **b == b'\n').count();
+    newlines as u64 + 1
+}
+
+/// The first line.
+fn first_line(lines: &[u8]) -> &[u8]
+    ensures { result.now ≡ first_line (slice_split is_newline lines.now) }
+{
+    match lines.iter().position(|b| *b == b'\n') {
+        Some(at) => &lines[..at],
+        None => lines,
+    }
+}
+
+/// The last line.
+fn last_line(lines: &[u8]) -> &[u8]
+    ensures { result.now ≡ last_line (slice_split is_newline lines.now) }
+{
+    match lines.iter().rposition(|b| *b == b'\n') {
+        Some(at) => &lines[at + 1..],
+        None => lines,
+    }
+}
+
+/// A line, or its short form.
+fn append_short(alloc: Global, text: &mut Text, line: &[u8]) -> Result<(), NoMemory>
+    ensures { OnOk result (text.new ≡ text.old ++ short_line line.now) }
+{
+    let mut words = Tokens::new(line);
+    let (Some(word), Some(weight)) = (words.next(), words.next()) else {
+        return text.append(alloc, line);
+    };
+    if word != b"least" {
+        return text.append(alloc, line);
+    }
+    text.append(alloc, b"least ")?;
+    text.append(alloc, weight)?;
+    text.append(alloc, b" ")?;
+    append_number(alloc, text, count(words))
+}
+
+/// How many words are left.
+fn count(words: Tokens<'_>) -> u64
+    requires { length words < 2 ^ 63 }
+    ensures { result ≡ length words }
+{
+    let mut words = words;
+    let mut count = 0;
+    'words: while let Some(_) = words.next() {
+        count += 1;
+    }
+    count
+}
