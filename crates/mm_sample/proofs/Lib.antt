@@ -1,0 +1,5 @@
+mod OperatorLemmas
+mod ChainLemmas
+mod HeaderLemmas
+mod EditLemmas
+mod LineLemmas

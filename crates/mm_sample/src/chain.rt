@@ -48,7 +48,13 @@ fn grow(alloc: Global, f: Field, builder: &mut Builder, n: u32, seed: Draws) -> 
 }
 
 /// Draws the leaf of element i.
-fn add_leaf(alloc: Global, builder: &mut Builder, f: Field, i: u32, draws: &mut Draws) -> Result<(), NoMemory>
+fn add_leaf(
+    alloc: Global,
+    builder: &mut Builder,
+    f: Field,
+    i: u32,
+    draws: &mut Draws,
+) -> Result<(), NoMemory>
     requires { builder.old.f ≡ f }
     ensures tree { OnOk result (builder.new ≡ record { f = f; trees = leaf (order f) i draws.old.x ∷ builder.old.trees }) }
     ensures draws { OnOk result (draws.new.x ≡ after 3 draws.old.x) }
@@ -61,12 +67,18 @@ fn add_leaf(alloc: Global, builder: &mut Builder, f: Field, i: u32, draws: &mut 
 }
 
 /// Draws the join of the last two trees.
-fn add_join(alloc: Global, builder: &mut Builder, f: Field, ops: &OpTable, draws: &mut Draws) -> Result<(), NoMemory>
+fn add_join(
+    alloc: Global,
+    builder: &mut Builder,
+    f: Field,
+    ops: &OpTable,
+    draws: &mut Draws,
+) -> Result<(), NoMemory>
     requires field { builder.old.f ≡ f }
     requires ops { ops.now ≡ operators f }
     ensures tree { OnOk result (builder.new ≡ record {
-        f = f;
-        trees = joined_by (operator_name draws.old.x) (op_named (operator_name draws.old.x) (operators f)) builder.old.trees;
+      f = f;
+      trees = joined_by (operator_name draws.old.x) (op_named (operator_name draws.old.x) (operators f)) builder.old.trees;
     }) }
     ensures draws { OnOk result (draws.new.x ≡ next draws.old.x) }
 {

@@ -16,7 +16,13 @@ use mm_field::Field;
 use std::alloc::Global;
 
 /// As many edits as there are elements.
-pub(crate) fn append_edits(alloc: Global, text: &mut Text, f: Field, n: u32, draws: Draws) -> Result<(), NoMemory>
+pub(crate) fn append_edits(
+    alloc: Global,
+    text: &mut Text,
+    f: Field,
+    n: u32,
+    draws: Draws,
+) -> Result<(), NoMemory>
     requires some { 1 ≤ n }
     requires few { n ≤ 200 }
     ensures { OnOk result (text.new ≡ text.old ++ text_of_lines (edits (order f) n draws.x n)) }
@@ -29,7 +35,14 @@ pub(crate) fn append_edits(alloc: Global, text: &mut Text, f: Field, n: u32, dra
 }
 
 /// Draws an edit of one of n elements.
-fn append_edit(alloc: Global, text: &mut Text, f: Field, n: u32, draws: &mut Draws) -> Result<(), NoMemory>
+#[tactic(auto, unfolding(crate::specs::SampleText::edit_lines, crate::specs::SampleText::after_edit))]
+fn append_edit(
+    alloc: Global,
+    text: &mut Text,
+    f: Field,
+    n: u32,
+    draws: &mut Draws,
+) -> Result<(), NoMemory>
     requires some { 1 ≤ n }
     requires few { n ≤ 200 }
     ensures text { OnOk result (text.new ≡ text.old ++ text_of_lines (edit_lines (order f) n draws.old.x)) }
@@ -44,7 +57,12 @@ fn append_edit(alloc: Global, text: &mut Text, f: Field, n: u32, draws: &mut Dra
 }
 
 /// `weight NAME WEIGHT`
-fn append_weight_line(alloc: Global, text: &mut Text, name: &Name, draws: &mut Draws) -> Result<(), NoMemory>
+fn append_weight_line(
+    alloc: Global,
+    text: &mut Text,
+    name: &Name,
+    draws: &mut Draws,
+) -> Result<(), NoMemory>
     ensures text { OnOk result (text.new ≡ text.old ++ text_of_lines (weight_lines name.now draws.old.x)) }
     ensures draws { OnOk result (draws.new.x ≡ after 1 draws.old.x) }
 {
@@ -56,7 +74,13 @@ fn append_weight_line(alloc: Global, text: &mut Text, name: &Name, draws: &mut D
 }
 
 /// `replace NAME 0`, `elem NAME DIGITS WEIGHT` and `end`.
-fn append_replace_lines(alloc: Global, text: &mut Text, name: &Name, f: Field, draws: &mut Draws) -> Result<(), NoMemory>
+fn append_replace_lines(
+    alloc: Global,
+    text: &mut Text,
+    name: &Name,
+    f: Field,
+    draws: &mut Draws,
+) -> Result<(), NoMemory>
     ensures text { OnOk result (text.new ≡ text.old ++ text_of_lines (replace_lines (order f) name.now draws.old.x)) }
     ensures draws { OnOk result (draws.new.x ≡ after 3 draws.old.x) }
 {
@@ -65,7 +89,10 @@ fn append_replace_lines(alloc: Global, text: &mut Text, name: &Name, f: Field, d
     text.append(alloc, name.bytes())?;
     text.append(alloc, b" 0\nelem ")?;
     text.append(alloc, name.bytes())?;
-    text.append(alloc, &[b' ', b'0' + digits.at(0), b'0' + digits.at(1), b' '])?;
+    text.append(
+        alloc,
+        &[b' ', b'0' + digits.at(0), b'0' + digits.at(1), b' '],
+    )?;
     append_weight(alloc, text, draws.weight())?;
     text.append(alloc, b"\nend\n")
 }

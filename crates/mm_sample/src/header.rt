@@ -1,6 +1,6 @@
 //! The lines of a sample before those of its tree.
 
-ghost use Rattle.std.specs.Prelude.{◌≡◌, ◌≤◌, ◌++◌, ◌∷◌, [], OnOk, codes, map};
+ghost use Rattle.std.specs.Prelude.{◌≡◌, ◌≤◌, ◌+◌, ◌++◌, ◌∷◌, [], OnOk, map};
 ghost use Rattle.mm_field.specs.declared.Field.TheVariants.{Five};
 ghost use Rattle.mm_field.specs.Digits.{order};
 ghost use Rattle.mm_field.specs.Vectors.{AreDigits};
@@ -14,7 +14,13 @@ use mm_matrix::Matrix;
 use std::alloc::Global;
 
 /// The lines before those of the tree.
-pub(crate) fn append_header(alloc: Global, text: &mut Text, f: Field, n: u32, rows: &Matrix) -> Result<(), NoMemory>
+pub(crate) fn append_header(
+    alloc: Global,
+    text: &mut Text,
+    f: Field,
+    n: u32,
+    rows: &Matrix,
+) -> Result<(), NoMemory>
     requires { n ≤ 200 }
     ensures { OnOk result (text.new ≡ text.old ++ text_of_lines (header_lines f n rows.now.rows)) }
 {
@@ -24,7 +30,10 @@ pub(crate) fn append_header(alloc: Global, text: &mut Text, f: Field, n: u32, ro
     append_elements(alloc, text, n)?;
     text.append(alloc, b"\n")?;
     append_rows(alloc, text, rows)?;
-    text.append(alloc, b"op p 2 2 2 0 10/01 10/01\nop s 2 2 2 1 100/011 010/001\ntree\n")
+    text.append(
+        alloc,
+        b"op p 2 2 2 0 10/01 10/01\nop s 2 2 2 1 100/011 010/001\ntree\n",
+    )
 }
 
 /// `elements e1 .. en`

@@ -25,7 +25,10 @@ pub fn sample_text(alloc: Global, f: Field, n: u32, seed: u32) -> Result<Text, N
     let mut text = Text::new(alloc);
     append_header(alloc, &mut text, f, n, &present.rows)?;
     text.append(alloc, write_tree(alloc, &tree)?.bytes())?;
-    text.append(alloc, b"least X ind(X) and all y (y in X or not ind(X|y))\n")?;
+    text.append(
+        alloc,
+        b"least X ind(X) and all y (y in X or not ind(X|y))\n",
+    )?;
     append_edits(alloc, &mut text, f, n, seed.after(4 * n - 1))?;
     Ok(text)
 }

@@ -1,7 +1,7 @@
 //! What is shown of the lines of a job.
 
 ghost use Rattle.std.specs.Prelude.{◌≡◌, ◌<◌, ◌^◌, ◌++◌, IfOk, OnOk, length};
-ghost use Rattle.std.specs.List.{slice_split};
+ghost use Rattle.std.specs.List.{position, slice_split};
 ghost use Rattle.mm_lines.specs.Lines.{is_newline};
 ghost use Rattle.mm_sample.specs.Summary.{AreLines, first_line, last_line, short_line, summary};
 
@@ -18,44 +18,54 @@ pub fn summary(alloc: Global, out: &[u8]) -> Result<Text, NoMemory>
     ensures { IfOk result (λ text. text ≡ summary out.now) }
 {
     let lines = &out[..out.len() - 1];
+    let last = last_line(lines);
     let mut text = Text::new(alloc);
     text.append(alloc, b"answers ")?;
-    append_number(alloc, &mut text, line_count(lines))?;
+    append_number(alloc, &mut text, last.number)?;
     text.append(alloc, b"\nfirst ")?;
     append_short(alloc, &mut text, first_line(lines))?;
     text.append(alloc, b"\nlast ")?;
-    append_short(alloc, &mut text, last_line(lines))?;
+    append_short(alloc, &mut text, last.line)?;
     text.append(alloc, b"\n")?;
     Ok(text)
 }
 
-/// How many lines there are, with a newline between each two.
-fn line_count(lines: &[u8]) -> u64
-    requires { length lines.now < 2 ^ 63 }
-    ensures { result ≡ length (slice_split is_newline lines.now) }
-{
-    let newlines = lines.iter().filter(|b| **b == b'\n').count();
-    newlines as u64 + 1
+/// The last of some lines, and its number, from 1.
+#[derive(Clone, Copy)]
+struct LastLine<'a> {
+    number: u64,
+    line: &'a [u8],
 }
 
-/// The first line.
+/// The last of the lines that have a newline between each two.
+fn last_line(lines: &[u8]) -> LastLine<'_>
+    ensures number { result.number ≡ length (slice_split is_newline lines.now) }
+    ensures line { result.line.now ≡ last_line (slice_split is_newline lines.now) }
+{
+    let mut number = 1;
+    let mut line = lines;
+    'lines: while let Some(at) = newline_in(line) {
+        number += 1;
+        line = &line[at + 1..];
+    }
+    LastLine { number, line }
+}
+
+/// The first of the lines that have a newline between each two.
 fn first_line(lines: &[u8]) -> &[u8]
     ensures { result.now ≡ first_line (slice_split is_newline lines.now) }
 {
-    match lines.iter().position(|b| *b == b'\n') {
+    match newline_in(lines) {
         Some(at) => &lines[..at],
         None => lines,
     }
 }
 
-/// The last line.
-fn last_line(lines: &[u8]) -> &[u8]
-    ensures { result.now ≡ last_line (slice_split is_newline lines.now) }
+/// The place of the first newline.
+fn newline_in(bytes: &[u8]) -> Option<usize>
+    ensures { result ≡ position is_newline bytes.now }
 {
-    match lines.iter().rposition(|b| *b == b'\n') {
-        Some(at) => &lines[at + 1..],
-        None => lines,
-    }
+    bytes.iter().position(|b| *b == b'\n')
 }
 
 /// A line, or its short form.
@@ -66,7 +76,7 @@ fn append_short(alloc: Global, text: &mut Text, line: &[u8]) -> Result<(), NoMem
     let (Some(word), Some(weight)) = (words.next(), words.next()) else {
         return text.append(alloc, line);
     };
-    if word != b"least" {
+    if word != b"least".as_slice() {
         return text.append(alloc, line);
     }
     text.append(alloc, b"least ")?;
@@ -78,7 +88,7 @@ fn append_short(alloc: Global, text: &mut Text, line: &[u8]) -> Result<(), NoMem
 /// How many words are left.
 fn count(words: Tokens<'_>) -> u64
     requires { length words < 2 ^ 63 }
-    ensures { result ≡ length words }
+    ensures { result ≡ length words.entry }
 {
     let mut words = words;
     let mut count = 0;
