@@ -2,4 +2,6 @@ mod OperatorLemmas
 mod ChainLemmas
 mod HeaderLemmas
 mod EditLemmas
+mod JobLemmas
 mod LineLemmas
+mod ShortLemmas

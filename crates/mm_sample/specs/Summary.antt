@@ -27,7 +27,7 @@ last_line (line ∷ next ∷ lines) = last_line (next ∷ lines)
 -- A line of these tokens: `least W NAMES` is shortened to `least W COUNT`, COUNT being the number of names, and every other line
 -- stands as it is.
 abbrev pub shortened : (line : List ℕ) → List (List ℕ) → List ℕ
-shortened line (word ∷ weight ∷ names) = if bytes_eq word (codes "least") then spaced (word ∷ weight ∷ decimal (length names) ∷ []) else line
+shortened line (word ∷ weight ∷ names) = if bytes_eq word (codes "least") then spaced (codes "least" ∷ weight ∷ decimal (length names) ∷ []) else line
 shortened line words = line
 
 abbrev pub short_line : List ℕ → List ℕ

@@ -40,8 +40,8 @@ fn grow(alloc: Global, f: Field, builder: &mut Builder, n: u32, seed: Draws) -> 
     let mut leaves = seed;
     let mut joins = seed.after(3 * n);
     add_leaf(alloc, builder, f, 1, &mut leaves)?;
-    for k in 1..n {
-        add_leaf(alloc, builder, f, k + 1, &mut leaves)?;
+    for k in 0..n - 1 {
+        add_leaf(alloc, builder, f, k + 2, &mut leaves)?;
         add_join(alloc, builder, f, &ops, &mut joins)?;
     }
     Ok(())

@@ -1,6 +1,7 @@
 //! What is shown of the lines of a job.
 
-ghost use Rattle.std.specs.Prelude.{◌≡◌, ◌<◌, ◌^◌, ◌++◌, IfOk, OnOk, length};
+ghost use Rattle.std.specs.Prelude.{◌≡◌, ◌<◌, ◌^◌, ◌++◌, IfOk, OnOk, codes, length};
+ghost use Rattle.std.specs.Str.{bytes_eq};
 ghost use Rattle.std.specs.List.{position, slice_split};
 ghost use Rattle.mm_lines.specs.Lines.{is_newline};
 ghost use Rattle.mm_sample.specs.Summary.{AreLines, first_line, last_line, short_line, summary};
@@ -76,13 +77,20 @@ fn append_short(alloc: Global, text: &mut Text, line: &[u8]) -> Result<(), NoMem
     let (Some(word), Some(weight)) = (words.next(), words.next()) else {
         return text.append(alloc, line);
     };
-    if word != b"least".as_slice() {
+    if !is_least(word) {
         return text.append(alloc, line);
     }
     text.append(alloc, b"least ")?;
     text.append(alloc, weight)?;
     text.append(alloc, b" ")?;
     append_number(alloc, text, count(words))
+}
+
+/// Whether a word begins the line of a least set.
+fn is_least(word: &[u8]) -> bool
+    ensures { result ≡ bytes_eq word.now (codes "least") }
+{
+    word == b"least".as_slice()
 }
 
 /// How many words are left.

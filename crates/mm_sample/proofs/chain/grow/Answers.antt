@@ -1,9 +1,29 @@
-use Rattle.std.proofs.Common.{arith}
-use Rattle.std.proofs.lemmas.Grind.{common_steps}
+use Rattle.std.proofs.Common.{ℕ, ◌+◌, ◌*◌, [], ◌∷◌, ap, ◌∙◌}
+use Rattle.mm_field.specs.Digits.{order}
+use Rattle.mm_sample.specs.Draws.{after, next}
+use Rattle.mm_sample.specs.SampleTree.{leaf}
+use Rattle.mm_sample.proofs.ChainLemmas.{chain_is_built, chain_of_one, one_more, three_more}
+use Rattle.mm_tree.specs.Building.{BuilderValue}
+use Rattle.mm_tree.specs.NamedTree.{Tree}
 use Rattle.mm_sample.proofs.chain.grow.Goals as goal
 
 pub loop-k-init : goal.loop-k-init
-loop-k-init c = ?
+loop-k-init c =
+    let q = order c.args.f in
+    let x = c.args.seed.x in (
+      c.in_ok-add_leaf.ensures.tree
+          ∙ ap (λ (v : BuilderValue). record { f = c.args.f; trees = leaf q 1 x ∷ v.trees }) c.requires.new
+          ∙ ap (λ (tree : Tree). record { f = c.args.f; trees = tree ∷ [] }) (chain_of_one q x (after (3 * c.args.n) x)),
+      c.in_ok-add_leaf.ensures.draws,
+      c.after-joins.ensures,
+    )
 
 pub loop-k-preserved : goal.loop-k-preserved
-loop-k-preserved c = ?
+loop-k-preserved c =
+    let x = c.args.seed.x in (
+      chain_is_built c.args.f (order c.args.f) x (after (3 * c.args.n) x) c.loop-k.k c.loop-k.builder c.add_leaf-in-loop-k.new.builder
+          c.add_join.new.builder c.loop-k.leaves.x c.loop-k.joins.x c.loop-k.invariant.0 c.loop-k.invariant.1 c.loop-k.invariant.2
+          c.in_ok-add_leaf-2.ensures.tree c.in_ok-add_join.ensures.tree,
+      c.in_ok-add_leaf-2.ensures.draws ∙ ap (λ (i : ℕ). after 3 i) c.loop-k.invariant.1 ∙ three_more (c.loop-k.k + 1) x,
+      c.in_ok-add_join.ensures.draws ∙ ap (λ (i : ℕ). next i) c.loop-k.invariant.2 ∙ one_more c.loop-k.k (after (3 * c.args.n) x),
+    )
