@@ -1,5 +1,7 @@
 mod OperatorLemmas
 mod ChainLemmas
+mod NameLemmas
+mod FaultLemmas
 mod HeaderLemmas
 mod EditLemmas
 mod JobLemmas

@@ -1,11 +1,11 @@
 //! The tree of a sample.
 
-ghost use Rattle.std.specs.Prelude.{◌≡◌, ◌≤◌, ◌∷◌, [], IfOk, OnOk};
+ghost use Rattle.std.specs.Prelude.{◌≡◌, ◌≤◌, ◌∷◌, [], IfOk, None, Ok, OnOk};
 ghost use Rattle.mm_field.specs.Digits.{order};
 ghost use Rattle.mm_ops.specs.Tables.{op_named};
 ghost use Rattle.mm_sample.specs.Draws.{after, next};
-ghost use Rattle.mm_sample.specs.SampleTree.{chain, leaf, operator_name, operators, sample_tree};
-ghost use Rattle.mm_tree.specs.Building.{joined_by};
+ghost use Rattle.mm_sample.specs.SampleTree.{chain, element_name, leaf, operator_name, operators, sample_tree};
+ghost use Rattle.mm_tree.specs.Building.{Answers, joined_by, leaf_fault, named_fault};
 
 use crate::draws::Draws;
 use crate::numbers::element;
@@ -13,7 +13,7 @@ use crate::operators::{operators, p, s};
 use mm_base::{Name, NoMemory};
 use mm_field::Field;
 use mm_ops::OpTable;
-use mm_tree::{Builder, Tree};
+use mm_tree::{BuildFault, Builder, Tree};
 use std::alloc::Global;
 
 /// The tree of n elements, drawn from a seed.
@@ -25,8 +25,10 @@ pub(crate) fn sample_tree(alloc: Global, f: Field, n: u32, seed: Draws) -> Resul
 {
     let mut builder = Builder::new(alloc, f);
     grow(alloc, f, &mut builder, n, seed)?;
-    // The builder has one tree.
-    builder.finish().or(Err(NoMemory))
+    let Ok(tree) = builder.finish() else {
+        unreachable!();
+    };
+    Ok(tree)
 }
 
 /// Makes the tree of n elements in a new builder.
@@ -55,15 +57,15 @@ fn add_leaf(
     i: u32,
     draws: &mut Draws,
 ) -> Result<(), NoMemory>
-    requires { builder.old.f ≡ f }
+    requires field { builder.old.f ≡ f }
+    requires fault { leaf_fault (element_name i) builder.old.trees ≡ None }
     ensures tree { OnOk result (builder.new ≡ record { f = f; trees = leaf (order f) i draws.old.x ∷ builder.old.trees }) }
     ensures draws { OnOk result (draws.new.x ≡ after 3 draws.old.x) }
 {
     let name = element(alloc, i)?;
     let digits = draws.digits(f);
     let weight = draws.weight();
-    // The name is new, and there are fewer leaves than a tree may have.
-    builder.elem(alloc, name, digits, weight).or(Err(NoMemory))
+    without_fault(builder.elem(alloc, name, digits, weight))
 }
 
 /// Draws the join of the last two trees.
@@ -76,6 +78,7 @@ fn add_join(
 ) -> Result<(), NoMemory>
     requires field { builder.old.f ≡ f }
     requires ops { ops.now ≡ operators f }
+    requires fault { named_fault (operator_name draws.old.x) (op_named (operator_name draws.old.x) (operators f)) builder.old.trees ≡ None }
     ensures tree { OnOk result (builder.new ≡ record {
       f = f;
       trees = joined_by (operator_name draws.old.x) (op_named (operator_name draws.old.x) (operators f)) builder.old.trees;
@@ -83,8 +86,15 @@ fn add_join(
     ensures draws { OnOk result (draws.new.x ≡ next draws.old.x) }
 {
     let name = operator_name(draws);
-    // Two trees with boundaries of two digits are there, neither too deep.
-    builder.join(alloc, ops, &name).or(Err(NoMemory))
+    without_fault(builder.join(alloc, ops, &name))
+}
+
+/// What a builder answers where it has no fault: only memory may be missing.
+fn without_fault(answer: Result<(), BuildFault>) -> Result<(), NoMemory>
+    requires { Answers answer None }
+    ensures { OnOk result (answer ≡ Ok tt) }
+{
+    answer.or(Err(NoMemory))
 }
 
 /// The operator that is drawn.

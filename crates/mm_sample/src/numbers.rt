@@ -32,11 +32,14 @@ pub(crate) fn append_element(alloc: Global, text: &mut Text, i: u32) -> Result<(
 }
 
 /// The name of element i.
+#[tactic(auto, using(crate::proofs::NameLemmas::element_is_name))]
 pub(crate) fn element(alloc: Global, i: u32) -> Result<Name, NoMemory>
     ensures { IfOk result (λ name. name ≡ element_name i) }
 {
     let mut text = Text::new(alloc);
     append_element(alloc, &mut text, i)?;
-    // The letter e and at most ten digits are a name.
-    Name::read(text.bytes()).ok_or(NoMemory)
+    let Some(name) = Name::read(text.bytes()) else {
+        unreachable!();
+    };
+    Ok(name)
 }
