@@ -4,7 +4,7 @@ use Rattle.std.specs.Prelude.{codes}
 use Rattle.mm_field.specs.declared.Field.{Field}
 use Rattle.mm_ops.specs.Tables.{op_named}
 use Rattle.mm_sample.specs.Draws.{after, draw, next}
-use Rattle.mm_sample.specs.SampleTree.{chain, leaf, operator_after, operator_name, operator_p, operator_s, operators}
+use Rattle.mm_sample.specs.SampleTree.{chain, leaf, operator_name, operator_p, operator_s, operators}
 use Rattle.mm_tree.specs.Building.{joined_by, BuilderValue}
 use Rattle.mm_tree.specs.NamedTree.{Tree}
 use Rattle.mm_tree.specs.NamedTree.Tree.{Join}

@@ -1,5 +1,5 @@
 -- The text of edits, one after another.
-use Rattle.std.proofs.Common.{◌≡◌, ◌<◌, ◌+◌, ◌-◌, List, [], ◌∷◌, ◌++◌, ℕ, suc, refl, sym, ap, ◌∙◌, append_assoc, append-nil, arith}
+use Rattle.std.proofs.Common.{◌≡◌, ◌<◌, ◌+◌, ◌-◌, List, ◌++◌, ℕ, suc, sym, ap, ◌∙◌, append_assoc, append-nil, arith}
 use Rattle.mm_sample.specs.SampleText.{after_edit, edit_lines, edits}
 use Rattle.mm_tree.specs.TreeText.{text_of_lines}
 use Rattle.mm_tree.proofs.TextLemmas.{text_of_both}

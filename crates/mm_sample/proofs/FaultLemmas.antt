@@ -1,17 +1,16 @@
 -- A sample's tree is built without a fault.
-use Rattle.std.proofs.Common.{◌≡◌, ℕ, zero, suc, ◌+◌, ◌<◌, ◌≤◌, max, Bool, true, false, List, [], ◌∷◌, ◌++◌, length, map, None, Some, Option, refl, sym, ap, ap₂, ◌∙◌, arith, subst}
+use Rattle.std.proofs.Common.{◌≡◌, ℕ, zero, suc, ◌+◌, ◌≤◌, max, Bool, true, false, List, [], ◌∷◌, ◌++◌, length, map, None, Option, refl, sym, ap, ap₂, ◌∙◌, arith}
 use Rattle.std.specs.Prelude.{codes, not, nat_le, ◌==◌, if◌then◌else◌}
 use Rattle.std.specs.List.{range_with_len}
 use Rattle.std.proofs.lemmas.Bool.Decides.{nat_tests}
 use Rattle.std.proofs.lemmas.List.FromFn.{length-map-range_with_len, map-range_with_len_more}
 use Rattle.mm_field.specs.declared.Field.{Field}
 use Rattle.mm_logic.specs.Operator.{Op}
-use Rattle.mm_ops.specs.OpValue.{OpValue}
 use Rattle.mm_ops.specs.Tables.{op_named}
 use Rattle.mm_sample.specs.Draws.{after, draw}
-use Rattle.mm_sample.specs.SampleTree.{chain, element_name, leaf, operator_after, operator_name, operator_p, operator_s, operators}
+use Rattle.mm_sample.specs.SampleTree.{chain, element_name, leaf, operator_name, operator_p, operator_s, operators}
 use Rattle.mm_sample.proofs.NameLemmas.{element_is_new}
-use Rattle.mm_tree.specs.Building.{leaf_fault, named_fault, names_in, pair_fault}
+use Rattle.mm_tree.specs.Building.{leaf_fault, named_fault, pair_fault}
 use Rattle.mm_tree.specs.NamedTree.{Tree, boundary, depth, is_one_of, leaf_names}
 use Rattle.mm_tree.specs.ValidTree.{most_depth, most_leaves}
 use Rattle.mm_tree.specs.declared.builder.BuildFault.{BuildFault}

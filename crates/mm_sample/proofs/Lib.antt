@@ -7,3 +7,4 @@ mod EditLemmas
 mod JobLemmas
 mod LineLemmas
 mod ShortLemmas
+pub mod WrittenLemmas

@@ -7,7 +7,6 @@ use Rattle.mm_field.specs.Digits.{order}
 use Rattle.mm_present.specs.Comparing.{present_rows}
 use Rattle.mm_sample.specs.Draws.{after, digits_after, draw, weight_after}
 use Rattle.mm_sample.specs.SampleTree.{element_name, sample_tree}
-use Rattle.mm_tree.specs.NamedTree.{Tree}
 use Rattle.mm_tree.specs.TreeText.{elem_text, spaced, text_of_lines, tree_text}
 
 -- `elements e1 .. en`

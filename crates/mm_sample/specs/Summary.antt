@@ -1,5 +1,5 @@
 -- The summary of what a job writes.
-use Rattle.std.specs.Prelude.{ℕ, ◌-◌, ◌==◌, ◌≡◌, List, [], ◌∷◌, ◌++◌, length, take, codes, slice_get, Some, if◌then◌else◌}
+use Rattle.std.specs.Prelude.{ℕ, ◌-◌, ◌≡◌, false, List, [], ◌∷◌, ◌++◌, All, length, take, codes, slice_get, Some, if◌then◌else◌}
 use Rattle.std.specs.Fmt.{decimal}
 use Rattle.std.specs.List.{slice_split}
 use Rattle.std.specs.Str.{bytes_eq}
@@ -14,6 +14,16 @@ AreLines bytes = slice_get bytes (length bytes - 1) ≡ Some 10
 -- The lines of such bytes.
 abbrev pub lines_in : List ℕ → List (List ℕ)
 lines_in bytes = slice_split is_newline (take (length bytes - 1) bytes)
+
+-- A line has no newline in it.
+abbrev pub HasNoNewline : List ℕ → Type 0
+HasNoNewline line = All (λ b. is_newline b ≡ false) line
+
+-- Where lines are written, each with a newline at its end, these are the lines of what is written.
+abbrev pub WrittenLinesAreFound : Type 0
+WrittenLinesAreFound =
+    (line : List ℕ) (lines : List (List ℕ)) → All HasNoNewline (line ∷ lines)
+    → AreLines (text_of_lines (line ∷ lines)) × (lines_in (text_of_lines (line ∷ lines)) ≡ line ∷ lines)
 
 abbrev pub first_line : List (List ℕ) → List ℕ
 first_line [] = []

@@ -9,9 +9,11 @@ mod draws;
 mod edits;
 mod header;
 mod job;
+mod laws;
 mod numbers;
 mod operators;
 mod short;
 
 pub use job::sample_text;
+pub use laws::written_lines_are_found;
 pub use short::summary;

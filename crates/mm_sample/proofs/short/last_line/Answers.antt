@@ -2,7 +2,7 @@ use Rattle.std.proofs.Common.{◌∙◌, sym, arith}
 use Rattle.std.proofs.lemmas.Grind.{common_steps}
 use Rattle.std.proofs.lemmas.List.Quantifiers.{position-Some}
 use Rattle.mm_lines.specs.Lines.{is_newline}
-use Rattle.mm_sample.proofs.LineLemmas.{last_after, last_alone, lines_are_few, one_alone, one_more, some_line}
+use Rattle.mm_sample.proofs.LineLemmas.{last_after, last_alone, lines_are_few, one_alone, one_more}
 use Rattle.mm_sample.proofs.short.last_line.Goals as goal
 
 pub overflow_add-number : goal.overflow_add-number
