@@ -4,12 +4,7 @@ use Rattle.std.specs.Prelude.{codes}
 use Rattle.std.specs.Fmt.{decimal}
 use Rattle.std.specs.Str.{bytes_eq}
 use Rattle.mm_lines.specs.Tokens.{tokens}
-use Rattle.mm_sample.specs.Summary.{short_line, shortened}
-use Rattle.mm_tree.specs.TreeText.{spaced}
-
--- `least WEIGHT COUNT`
-abbrev least_text : List ℕ → List (List ℕ) → List ℕ
-least_text weight names = spaced (codes "least" ∷ weight ∷ decimal (length names) ∷ [])
+use Rattle.mm_sample.specs.Summary.{least_line, short_line, shortened}
 
 chosen : (b : Bool) (some other : List ℕ) → b ≡ true → some ≡ (if b then some else other)
 chosen true some other e = refl
@@ -22,5 +17,5 @@ short_of_least text line word weight names e h =
     append_assoc ((text ++ codes "least ") ++ weight) (codes " ") (decimal (length names))
     ∙ append_assoc (text ++ codes "least ") weight (32 ∷ decimal (length names))
     ∙ append_assoc text (codes "least ") (weight ++ 32 ∷ decimal (length names))
-    ∙ ap (λ (t : List ℕ). text ++ t) (chosen (bytes_eq word (codes "least")) (least_text weight names) line h)
+    ∙ ap (λ (t : List ℕ). text ++ t) (chosen (bytes_eq word (codes "least")) (least_line weight (length names)) line h)
     ∙ ap (λ (ts : List (List ℕ)). text ++ shortened line ts) (sym e)

@@ -34,10 +34,13 @@ last_line [] = []
 last_line (line ∷ []) = line
 last_line (line ∷ next ∷ lines) = last_line (next ∷ lines)
 
--- A line of these tokens: `least W NAMES` is shortened to `least W COUNT`, COUNT being the number of names, and every other line
--- stands as it is.
+-- `least W COUNT`
+abbrev pub least_line : List ℕ → ℕ → List ℕ
+least_line weight count = spaced (codes "least" ∷ weight ∷ decimal count ∷ [])
+
+-- A line of these tokens in short: of `least W NAMES` the number of names stands in their place, and every other line is as it is.
 abbrev pub shortened : (line : List ℕ) → List (List ℕ) → List ℕ
-shortened line (word ∷ weight ∷ names) = if bytes_eq word (codes "least") then spaced (codes "least" ∷ weight ∷ decimal (length names) ∷ []) else line
+shortened line (word ∷ weight ∷ names) = if bytes_eq word (codes "least") then least_line weight (length names) else line
 shortened line words = line
 
 abbrev pub short_line : List ℕ → List ℕ
