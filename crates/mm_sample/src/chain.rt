@@ -4,7 +4,7 @@ ghost use Rattle.std.specs.Prelude.{◌≡◌, ◌≤◌, ◌∷◌, [], IfOk, N
 ghost use Rattle.mm_field.specs.Digits.{order};
 ghost use Rattle.mm_ops.specs.Tables.{op_named};
 ghost use Rattle.mm_sample.specs.Draws.{after, next};
-ghost use Rattle.mm_sample.specs.SampleTree.{chain, element_name, leaf, operator_name, operators, sample_tree};
+ghost use Rattle.mm_sample.specs.SampleTree.{element_name, leaf, operator_name, operators, sample_tree};
 ghost use Rattle.mm_tree.specs.Building.{Answers, joined_by, leaf_fault, named_fault};
 
 use crate::draws::Draws;

@@ -1,6 +1,6 @@
 //! The generator.
 
-ghost use Rattle.std.specs.Prelude.{◌≡◌, ◌<◌, ◌≤◌};
+ghost use Rattle.std.specs.Prelude.{◌≡◌, ◌<◌};
 ghost use Rattle.mm_field.specs.Digits.{order};
 ghost use Rattle.mm_sample.specs.Draws.{after, digits_after, draw, next, weight_after};
 
@@ -20,15 +20,23 @@ pub(crate) struct Draws {
 }
 
 impl Draws {
-    /// A draw below m.
+    /// Goes on to the next number.
     #[tactic(auto, unfolding(crate::specs::Draws::next))]
+    fn next(&mut self) -> u32
+        ensures number { result ≡ next self.old.x }
+        ensures state { self.new.x ≡ next self.old.x }
+    {
+        self.x = (u64::from(self.x) * MULTIPLIER % MODULUS) as u32;
+        self.x
+    }
+
+    /// A draw below m.
     pub(crate) fn below(&mut self, m: u32) -> u32
         requires { 0 < m }
         ensures draw { result ≡ draw 1 m self.old.x }
-        ensures next { self.new.x ≡ next self.old.x }
+        ensures state { self.new.x ≡ next self.old.x }
     {
-        self.x = (u64::from(self.x) * MULTIPLIER % MODULUS) as u32;
-        self.x % m
+        self.next() % m
     }
 
     /// The generator so many draws later.
@@ -37,7 +45,7 @@ impl Draws {
     {
         let mut later = self;
         for _ in 0..draws {
-            let _ = later.below(1);
+            later.next();
         }
         later
     }
@@ -45,7 +53,7 @@ impl Draws {
     /// A vector of two drawn digits.
     pub(crate) fn digits(&mut self, f: Field) -> Vector
         ensures vector { result ≡ digits_after (order f) self.old.x }
-        ensures next { self.new.x ≡ after 2 self.old.x }
+        ensures state { self.new.x ≡ after 2 self.old.x }
     {
         let first = self.digit(f);
         let second = self.digit(f);
@@ -59,7 +67,7 @@ impl Draws {
     fn digit(&mut self, f: Field) -> u8
         ensures digit { result ≡ draw 1 (order f) self.old.x }
         ensures small { result < order f }
-        ensures next { self.new.x ≡ next self.old.x }
+        ensures state { self.new.x ≡ next self.old.x }
     {
         self.below(u32::from(f.q())) as u8
     }
@@ -67,7 +75,7 @@ impl Draws {
     /// A weight: 1 plus a draw below 100.
     pub(crate) fn weight(&mut self) -> i64
         ensures weight { result ≡ weight_after self.old.x }
-        ensures next { self.new.x ≡ next self.old.x }
+        ensures state { self.new.x ≡ next self.old.x }
     {
         i64::from(1 + self.below(100))
     }

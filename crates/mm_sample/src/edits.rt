@@ -1,12 +1,9 @@
 //! The edits of a sample.
 
-ghost use Rattle.std.specs.Prelude.{◌≡◌, ◌≤◌, ◌<◌, ◌++◌, ◌+◌, OnOk, length};
+ghost use Rattle.std.specs.Prelude.{◌≡◌, ◌≤◌, ◌++◌, OnOk};
 ghost use Rattle.mm_field.specs.Digits.{order};
-ghost use Rattle.mm_field.specs.declared.Field.TheVariants.{Five};
-ghost use Rattle.mm_field.specs.Vectors.{AreDigits};
-ghost use Rattle.mm_sample.specs.Draws.{after, digits_after, weight_after};
+ghost use Rattle.mm_sample.specs.Draws.{after};
 ghost use Rattle.mm_sample.specs.SampleText.{after_edit, edit_lines, edits, replace_lines, weight_lines};
-ghost use Rattle.mm_sample.specs.SampleTree.{element_name};
 ghost use Rattle.mm_tree.specs.TreeText.{text_of_lines};
 
 use crate::draws::Draws;

@@ -2,7 +2,6 @@
 
 ghost use Rattle.std.specs.Prelude.{◌≡◌, ◌≤◌, ◌+◌, ◌++◌, ◌∷◌, [], OnOk, map};
 ghost use Rattle.mm_field.specs.declared.Field.TheVariants.{Five};
-ghost use Rattle.mm_field.specs.Digits.{order};
 ghost use Rattle.mm_field.specs.Vectors.{AreDigits};
 ghost use Rattle.mm_sample.specs.SampleText.{elements_line, header_lines, row_line};
 ghost use Rattle.mm_tree.specs.TreeText.{text_of_lines};

@@ -1,4 +1,4 @@
-//! Numbers, and the names that they give.
+//! Numbers as texts, and the names of elements.
 
 ghost use Rattle.std.specs.Prelude.{◌≡◌, ◌++◌, OnOk, IfOk};
 ghost use Rattle.std.specs.Fmt.{decimal, signed_decimal};
@@ -7,7 +7,7 @@ ghost use Rattle.mm_sample.specs.SampleTree.{element_name};
 use mm_base::{Name, NoMemory, Text};
 use std::alloc::Global;
 
-/// A number in decimal digits.
+/// Appends a number in decimal digits.
 pub(crate) fn append_number(alloc: Global, text: &mut Text, n: u64) -> Result<(), NoMemory>
     ensures { OnOk result (text.new ≡ text.old ++ decimal n) }
 {
@@ -15,7 +15,7 @@ pub(crate) fn append_number(alloc: Global, text: &mut Text, n: u64) -> Result<()
     text.append(alloc, digits.as_bytes())
 }
 
-/// A weight in decimal digits.
+/// Appends a weight in decimal digits.
 pub(crate) fn append_weight(alloc: Global, text: &mut Text, weight: i64) -> Result<(), NoMemory>
     ensures { OnOk result (text.new ≡ text.old ++ signed_decimal weight) }
 {
@@ -23,7 +23,7 @@ pub(crate) fn append_weight(alloc: Global, text: &mut Text, weight: i64) -> Resu
     text.append(alloc, digits.as_bytes())
 }
 
-/// The name of element i.
+/// Appends the name of element i.
 pub(crate) fn append_element(alloc: Global, text: &mut Text, i: u32) -> Result<(), NoMemory>
     ensures { OnOk result (text.new ≡ text.old ++ element_name i) }
 {

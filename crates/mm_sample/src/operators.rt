@@ -1,6 +1,7 @@
 //! The two operators of a sample.
 
-ghost use Rattle.std.specs.Prelude.{◌≡◌, IfOk, codes};
+ghost use Rattle.std.specs.Prelude.{◌≡◌, ◌++◌, ◌∷◌, [], IfOk, None, OnOk, codes};
+ghost use Rattle.mm_ops.specs.Tables.{refusal_of};
 ghost use Rattle.mm_sample.specs.SampleTree.{operator_p, operator_s, operators};
 
 use mm_base::{Name, NoMemory};
@@ -14,10 +15,17 @@ pub(crate) fn operators(alloc: Global, f: Field) -> Result<OpTable, NoMemory>
     ensures { IfOk result (λ ops. ops ≡ operators f) }
 {
     let mut ops = OpTable::new(alloc);
-    if ops.add(alloc, p(), operator_p(f)).is_err() || ops.add(alloc, s(), operator_s(f)).is_err() {
-        return Err(NoMemory);
-    }
+    add(alloc, &mut ops, p(), operator_p(f))?;
+    add(alloc, &mut ops, s(), operator_s(f))?;
     Ok(ops)
+}
+
+/// Adds an operator that the table does not refuse: only memory may be missing.
+fn add(alloc: Global, ops: &mut OpTable, name: Name, op: Op) -> Result<(), NoMemory>
+    requires { refusal_of name ops.old ≡ None }
+    ensures { OnOk result (ops.new ≡ ops.old ++ (name, op) ∷ []) }
+{
+    ops.add(alloc, name, op).or(Err(NoMemory))
 }
 
 /// The name p.
