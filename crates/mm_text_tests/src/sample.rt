@@ -41,6 +41,9 @@ fn its_summary(rt: HostRuntime) -> Result<(), NoMemory> {
         rt.alloc(),
         b"least 171 e1 e2\nleast 95 e1 e2\nleast 157 e1 e2\n",
     )?;
-    assert_eq!(rt; text.bytes(), b"answers 3\nfirst least 171 2\nlast least 157 2\n".as_slice());
+    assert_eq!(rt;
+        text.bytes(),
+        b"answers 3\nfirst least 171 2\nlast least 157 2\n".as_slice()
+    );
     Ok(())
 }
