@@ -13,3 +13,5 @@ mod formula_text;
 mod job_text;
 #[cfg(test)]
 mod lines;
+#[cfg(test)]
+mod sample;

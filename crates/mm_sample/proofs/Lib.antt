@@ -1,0 +1,10 @@
+mod OperatorLemmas
+mod ChainLemmas
+mod NameLemmas
+mod FaultLemmas
+mod HeaderLemmas
+mod EditLemmas
+mod JobLemmas
+mod LineLemmas
+mod ShortLemmas
+pub mod WrittenLemmas

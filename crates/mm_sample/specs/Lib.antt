@@ -1,0 +1,4 @@
+pub mod Draws
+pub mod SampleTree
+pub mod SampleText
+pub mod Summary
