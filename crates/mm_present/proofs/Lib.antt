@@ -8,3 +8,4 @@ mod NodeLemmas
 mod StackLemmas
 pub mod CompareLemmas
 mod RankLemmas
+mod ProductLemmas

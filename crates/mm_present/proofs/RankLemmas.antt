@@ -33,7 +33,7 @@ use Rattle.mm_present.proofs.TreeRows.{row_vector}
 -- ---- a combination of columns, by rows
 
 -- digit i of a combination of columns is the product of row i with the coefficients
-digit_of_sum : (f : Field) (m i : ℕ) (x : List ℕ) (cs : List (List ℕ)) → AreVectors f m cs → length x ≡ length cs → i < m →
+pub digit_of_sum : (f : Field) (m i : ℕ) (x : List ℕ) (cs : List (List ℕ)) → AreVectors f m cs → length x ≡ length cs → i < m →
     get_or (combination f m x cs) i 0 ≡ dot f (row_of cs i) x
 digit_of_sum f m i [] [] h e l = get_or-replicate m i 0 0 l
 digit_of_sum f m i [] (u ∷ cs) h e l = absurd (omega arith)
@@ -48,14 +48,14 @@ digit_of_sum f m i (c ∷ x) (u ∷ cs) h e l =
 abbrev pub rows_of_columns : ℕ → List (List ℕ) → List (List ℕ)
 rows_of_columns m cs = map (row_of cs) (range_with_len 0 m)
 
-orthogonal_from_zero : (f : Field) (m : ℕ) (cs : List (List ℕ)) (x : List ℕ) → AreVectors f m cs → length x ≡ length cs →
+pub orthogonal_from_zero : (f : Field) (m : ℕ) (cs : List (List ℕ)) (x : List ℕ) → AreVectors f m cs → length x ≡ length cs →
     combination f m x cs ≡ zeros m → IsOrthogonal f (rows_of_columns m cs) x
 orthogonal_from_zero f m cs x h e z = λ i d l.
     let li : i < m = (let n = length-map-range_with_len (row_of cs) 0 m in omega arith) in
     ap (λ v. dot f v x) (get_or-map-range_with_len (row_of cs) 0 m i i d li (omega arith))
     ∙ sym (digit_of_sum f m i x cs h e li) ∙ ap (λ v. get_or v i 0) z ∙ get_or-replicate m i 0 0 li
 
-zero_from_orthogonal : (f : Field) (m : ℕ) (cs : List (List ℕ)) (x : List ℕ) → AreVectors f m cs → length x ≡ length cs →
+pub zero_from_orthogonal : (f : Field) (m : ℕ) (cs : List (List ℕ)) (x : List ℕ) → AreVectors f m cs → length x ≡ length cs →
     IsOrthogonal f (rows_of_columns m cs) x → combination f m x cs ≡ zeros m
 zero_from_orthogonal f m cs x h e o =
     let long = (IsVector-combination f m x cs h).len in
@@ -69,7 +69,7 @@ zero_from_orthogonal f m cs x h e o =
 
 -- ---- rank
 
-reduced_are : (f : Field) (n : ℕ) (rows : List (List ℕ)) (h : AreVectors f n rows) → AreReduced f n (reduced_basis f n rows) (reduced_basis_is f n rows h).leads
+pub reduced_are : (f : Field) (n : ℕ) (rows : List (List ℕ)) (h : AreVectors f n rows) → AreReduced f n (reduced_basis f n rows) (reduced_basis_is f n rows h).leads
 reduced_are f n rows h =
     let b = reduced_basis_is f n rows h in
     record { each = b.each; leads_are = b.echelon; clear = b.reduced }
@@ -131,7 +131,7 @@ all_chosen zero (u ∷ cs) e = absurd (omega arith)
 all_chosen (suc n) [] e = absurd (omega arith)
 all_chosen (suc n) (u ∷ cs) e = ap (λ vs. u ∷ vs) (all_chosen n cs (omega arith))
 
-vectors_of_rows : (f : Field) (m k n : ℕ) (cs : List (List ℕ)) → AreVectors f m cs → AreVectors f (length cs) (map (row_of cs) (range_with_len k n))
+pub vectors_of_rows : (f : Field) (m k n : ℕ) (cs : List (List ℕ)) → AreVectors f m cs → AreVectors f (length cs) (map (row_of cs) (range_with_len k n))
 vectors_of_rows f m k zero cs h = All-nil (λ v. IsVector f (length cs) v)
 vectors_of_rows f m k (suc n) cs h =
     All-cons (λ v. IsVector f (length cs) v) _ _ (row_vector f m k cs h) (vectors_of_rows f m (k + 1) n cs h)

@@ -3,3 +3,4 @@ pub mod Bases
 pub mod Joining
 pub mod JoinCache
 pub mod Ordering
+pub mod Dependencies
