@@ -9,3 +9,6 @@ mod StackLemmas
 pub mod CompareLemmas
 mod RankLemmas
 mod ProductLemmas
+mod DualityLemmas
+mod TailLemmas
+mod PairLemmas

@@ -96,7 +96,7 @@ list_of_digits s n e =
     ext_get_or 0 (map (λ k. get_or s k 0) (range_with_len 0 n)) s (m ∙ sym e)
     (λ i l. get_or-map-range_with_len (λ k. get_or s k 0) 0 n i i 0 (omega arith) (omega arith))
 
-digits_are : (f : Field) (op : Op) (g : List (List ℕ)) → IsValidOp f op → AreVectors f (row_length op) g → AreVectors f (row_length op) (digits_at_join f op g)
+pub digits_are : (f : Field) (op : Op) (g : List (List ℕ)) → IsValidOp f op → AreVectors f (row_length op) g → AreVectors f (row_length op) (digits_at_join f op g)
 digits_are f op g ok h =
     let r = row_length op in
     let rows = completed f r op.g3 in
@@ -147,9 +147,11 @@ pub products_at_join : (f : Field) (op : Op) (l r : Tree) (x y : List ℕ) → I
 products_at_join f op l r x y ok ex ey =
     let row = joined_row (record { f = f; op = op }) (boundary_matrix f l) (boundary_matrix f r) in
     let n = row_length op in
+    let from_zero : op.t3 ≡ 0 + op.t3 = omega arith in
     let s = digits_of_join f op (products f (boundary_rows f l) x) (products f (boundary_rows f r) y) in
     ap (λ rows. products f rows (x ++ y) ++ products f (map row (range_with_len op.t3 op.c)) (x ++ y)) (boundary_of_join f op l r ok)
     ∙ sym (map-append (dot f (x ++ y)) (map row (range_with_len 0 op.t3)) (map row (range_with_len op.t3 op.c)))
+    ∙ ap (λ i. map (dot f (x ++ y)) (map row (range_with_len 0 op.t3) ++ map row (range_with_len i op.c))) from_zero
     ∙ ap (map (dot f (x ++ y))) (sym (split_range row 0 op.t3 op.c))
     ∙ map-map (dot f (x ++ y)) row (range_with_len 0 n)
     ∙ same_range (λ k. dot f (x ++ y) (row k)) (λ k. get_or s k 0) 0 n (λ k low high. digit_at_join f op l r x y k ok ex ey (omega arith))
