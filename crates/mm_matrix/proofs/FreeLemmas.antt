@@ -118,7 +118,7 @@ lead_vanishes f n i rows ks h l =
 
 -- ---- the span
 
-member_in_span : (f : Field) (n : ℕ) (rows : List (List ℕ)) (v : List ℕ) → AreVectors f n rows → Contains rows v → InSpan f n rows v
+pub member_in_span : (f : Field) (n : ℕ) (rows : List (List ℕ)) (v : List ℕ) → AreVectors f n rows → Contains rows v → InSpan f n rows v
 member_in_span f n rows v h c = subst (λ (u : List ℕ). InSpan f n rows u) c.2 (IsWithin-itself f n rows h c.0 v c.1)
 
 pub is_lead : (f : Field) (n k : ℕ) (rows : List (List ℕ)) (ks : List ℕ) → AreReduced f n rows ks → k < n → (is_pivot f rows k ≡ true) ↔ Contains ks k

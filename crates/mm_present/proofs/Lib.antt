@@ -12,3 +12,4 @@ mod ProductLemmas
 mod DualityLemmas
 mod TailLemmas
 mod PairLemmas
+mod AccountLemmas

@@ -2,7 +2,7 @@
 use Rattle.std.specs.Prelude.{ℕ, ◌+◌, ◌≡◌, ◌==◌, ◌&&◌, Bool, true, not, cond, Option, Some, None, nat_lt, List, [], ◌∷◌, ◌++◌, map, filter, take, drop, All}
 use Rattle.std.specs.List.{list_all, position}
 use Rattle.mm_field.specs.declared.Field.{Field}
-use Rattle.mm_field.specs.Vectors.{zeros, combination, times_matrix, IsVector, AreVectors, InSpan}
+use Rattle.mm_field.specs.Vectors.{zeros, combination, times_matrix, IsVector, InSpan}
 use Rattle.mm_logic.specs.PresentMatrix.{internal, boundary_rows}
 use Rattle.mm_logic.specs.Tree.{Tree, size, boundary}
 use Rattle.mm_matrix.specs.Orthogonal.{dot}
@@ -33,7 +33,6 @@ after_zeros t rows = map (λ v. zeros t ++ v) rows
 
 -- The pairs, and the faults with zero boundary digits before them, span all pairs of inner coefficients.
 pub record Account (f : Field) (g : ℕ) (T : Tree) (given pairs faults : List (List ℕ)) : Type 0 where
-  pub each : AreVectors f (boundary T + g) (pairs ++ after_zeros (boundary T) faults)
   pub sound : All (IsPair f g T given) (pairs ++ after_zeros (boundary T) faults)
   pub complete : (x : List ℕ) → IsInner f T x → InSpan f (boundary T + g) (pairs ++ after_zeros (boundary T) faults) (pair_of f g T given x)
 
