@@ -130,7 +130,7 @@ next_place h xs k x y done l ex ey e =
 
 -- ---- rows outside a row space
 
-position_found : {X : Type 0} (p : X → Bool) (xs : List X) (i : ℕ) (d : X) → i < length xs → p (get_or xs i d) ≡ true →
+pub position_found : {X : Type 0} (p : X → Bool) (xs : List X) (i : ℕ) (d : X) → i < length xs → p (get_or xs i d) ≡ true →
     ((k : ℕ) → k < i → p (get_or xs k d) ≡ false) → Some i ≡ position p xs
 position_found p xs i d l t f =
     let at = position_or_len_is p xs i d (omega arith) f (λ _. t) in
@@ -142,11 +142,11 @@ position_none p xs d f =
     let past : length xs ≤ length xs = omega arith in
     sym (ap (λ n. cond (nat_lt n (length xs)) (Some n) None) at ∙ ap (λ b. cond b (Some (length xs)) None) (le-ltb (length xs) (length xs) past))
 
-inside_true : (f : Field) (n : ℕ) (others : List (List ℕ)) (row : List ℕ) → AreVectors f n others → IsVector f n row → InSpan f n others row →
+pub inside_true : (f : Field) (n : ℕ) (others : List (List ℕ)) (row : List ℕ) → AreVectors f n others → IsVector f n row → InSpan f n others row →
     not (is_in_span f n others row) ≡ false
 inside_true f n others row h hr p = ap not ((is_in_span_decides f n others row h hr).1 p)
 
-outside_true : (f : Field) (n : ℕ) (others : List (List ℕ)) (row : List ℕ) → AreVectors f n others → IsVector f n row → (InSpan f n others row → ⊥) →
+pub outside_true : (f : Field) (n : ℕ) (others : List (List ℕ)) (row : List ℕ) → AreVectors f n others → IsVector f n row → (InSpan f n others row → ⊥) →
     not (is_in_span f n others row) ≡ true
 outside_true f n others row h hr p =
     ap not (false_from_ne_true (is_in_span f n others row) (λ t. p ((is_in_span_decides f n others row h hr).0 t)))

@@ -13,3 +13,6 @@ mod DualityLemmas
 mod TailLemmas
 mod PairLemmas
 mod AccountLemmas
+mod LeastLemmas
+mod LeafLemmas
+mod FaultLemmas

@@ -90,7 +90,7 @@ abbrev pub digits_of_join : Field → Op → List ℕ → List ℕ → List ℕ
 digits_of_join f op b c =
     vector_sum f (times_matrix f (row_length op) (digits_at_join f op op.g1) b) (times_matrix f (row_length op) (digits_at_join f op op.g2) c)
 
-list_of_digits : (s : List ℕ) (n : ℕ) → length s ≡ n → map (λ k. get_or s k 0) (range_with_len 0 n) ≡ s
+pub list_of_digits : (s : List ℕ) (n : ℕ) → length s ≡ n → map (λ k. get_or s k 0) (range_with_len 0 n) ≡ s
 list_of_digits s n e =
     let m = length-map-range_with_len (λ k. get_or s k 0) 0 n in
     ext_get_or 0 (map (λ k. get_or s k 0) (range_with_len 0 n)) s (m ∙ sym e)
