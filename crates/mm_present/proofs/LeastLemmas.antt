@@ -1,6 +1,8 @@
 -- The least place at which some vector has a digit other than 0.
 use Rattle.std.proofs.Common.{ℕ, zero, suc, ◌+◌, ◌<◌, ◌≤◌, ◌≡◌, ◌≢◌, ◌⊎◌, inl, inr, Bool, true, false, not, cond, Option, Some, None, List, [], ◌∷◌, ◌++◌, length, position, get_or, refl, sym, ap, ap₂, subst, ◌∙◌, arith}
-use Rattle.std.specs.Prelude.{nat_eq, nat_lt}
+use Rattle.std.specs.Prelude.{nat_eq, nat_lt, IfSome, IfNone}
+use Rattle.std.proofs.lemmas.List.{get_or-replicate}
+use Rattle.mm_field.specs.Vectors.{zeros}
 use Rattle.std.specs.List.{All}
 use Rattle.std.proofs.lemmas.Bool.{eqb-true, false_from_ne_true, ltb-true, lt-ltb, cases_lt}
 use Rattle.std.proofs.lemmas.List.Elements.{All-nil, All-cons, All-head, All-tail}
@@ -173,3 +175,11 @@ found_least least (v ∷ vs) i e =
 pub least_place-append : (least : Option ℕ) (us vs : List (List ℕ)) → least_place least (us ++ vs) ≡ least_place (least_place least us) vs
 least_place-append least [] vs = refl
 least_place-append least (u ∷ us) vs = least_place-append (lesser least (first_nonzero u)) us vs
+
+-- the first place, by what is known of it
+pub first_by_clauses : (v : List ℕ) (o : Option ℕ) → IfSome o (λ p. (p < length v) × (get_or v p 0 ≢ 0)) → IfSome o (λ p. (k : ℕ) → k < p → get_or v k 0 ≡ 0) →
+    IfNone o (v ≡ zeros (length v)) → o ≡ first_nonzero v
+first_by_clauses v (Some p) found least none =
+    position_found nonzero v p 0 found.0 (is_nonzero (get_or v p 0) found.1) (λ k l. ap nonzero (least k l))
+first_by_clauses v None found least none =
+    position_none nonzero v 0 (λ k l. ap nonzero (ap (λ u. get_or u k 0) none ∙ get_or-replicate (length v) k 0 0 l))

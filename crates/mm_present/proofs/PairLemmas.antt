@@ -1,5 +1,5 @@
 -- Pairs of boundary digits and given digits: they are linear in the coefficients; and those of a join.
-use Rattle.std.proofs.Common.{ℕ, ◌+◌, ◌≡◌, List, [], ◌∷◌, ◌++◌, length, map, take, drop, refl, sym, ap, ap₂, subst, ◌∙◌, arith, length-append, take-append-drop}
+use Rattle.std.proofs.Common.{ℕ, ◌+◌, ◌-◌, ◌≤◌, ◌≡◌, List, [], ◌∷◌, ◌++◌, length, map, take, drop, refl, sym, ap, ap₂, subst, ◌∙◌, arith, length-append, take-append-drop}
 use Rattle.std.specs.List.{range_with_len, All}
 use Rattle.std.proofs.lemmas.List.{length-map, length-replicate, take_at, drop_at}
 use Rattle.std.proofs.lemmas.List.Elements.{All-nil, All-head, All-tail}
@@ -105,7 +105,7 @@ module _ (f : Field) (g c t t3 : ℕ) (digits : List (List ℕ)) (hd : AreVector
   hi : (z : List ℕ) → IsVector f (t3 + c) (image z)
   hi z = IsVector-combination f (t3 + c) (take t z) digits hd
 
-  candidate_vector : (z : List ℕ) → IsVector f (t + g) z → IsVector f (c + (t3 + g)) (to_join z)
+  pub candidate_vector : (z : List ℕ) → IsVector f (t + g) z → IsVector f (c + (t3 + g)) (to_join z)
   candidate_vector z h =
       IsVector-append f c (t3 + g) _ _ (IsVector-drop f t3 c (image z) (hi z))
       (IsVector-append f t3 g _ _ (IsVector-take f t3 c (image z) (hi z)) (IsVector-drop f t g z h))
@@ -156,6 +156,19 @@ module _ (f : Field) (g c t t3 : ℕ) (digits : List (List ℕ)) (hd : AreVector
     zero_kept =
         ap to_join (sym (zeros-append t g)) ∙ candidate_zeros (zeros g) ∙ ap (λ x. zeros c ++ x) (zeros-append t3 g) ∙ zeros-append c (t3 + g);
   }
+
+-- a candidate has its length
+pub candidate_fits : (f : Field) (r t t3 n w : ℕ) (digits : List (List ℕ)) (z : List ℕ) → AreVectors f r digits → IsVector f n z → t ≤ n → t3 ≤ r → t + w ≡ r + n →
+    IsVector f w (candidate f r t t3 digits z)
+candidate_fits f r t t3 n w digits z hd hz lt l3 e =
+    let g = n - t in
+    let c = r - t3 in
+    let en : n ≡ t + g = omega arith in
+    let er : r ≡ t3 + c = omega arith in
+    let ew : c + (t3 + g) ≡ w = omega arith in
+    subst (λ k. IsVector f k (candidate f r t t3 digits z)) ew
+    (subst (λ k. IsVector f (c + (t3 + g)) (candidate f k t t3 digits z)) (sym er)
+    (candidate_vector f g c t t3 digits (subst (λ k. AreVectors f k digits) er hd) z (subst (λ k. IsVector f k z) en hz)))
 
 -- ---- a join
 

@@ -1,9 +1,9 @@
 -- Rows in echelon form whose first digits are zero, without these digits.
-use Rattle.std.proofs.Common.{ℕ, zero, suc, ◌+◌, ◌<◌, ◌≤◌, ◌≡◌, inl, inr, Bool, true, false, cond, List, [], ◌∷◌, ◌++◌, length, map, filter, take, drop, get_or, refl, sym, ap, ap₂, subst, ◌∙◌, arith, take-append-drop, length-drop}
+use Rattle.std.proofs.Common.{ℕ, zero, suc, ◌+◌, ◌<◌, ◌≤◌, ◌≡◌, inl, inr, Bool, true, false, not, cond, Option, List, [], ◌∷◌, ◌++◌, length, map, filter, take, drop, get_or, refl, sym, ap, ap₂, subst, ◌∙◌, arith, take-append-drop, length-drop}
 use Rattle.std.specs.Prelude.{◌==◌}
 use Rattle.std.specs.List.{All, list_all}
 use Rattle.std.proofs.lemmas.Bool.{cases_lt, false_from_ne_true}
-use Rattle.std.proofs.lemmas.List.{length-map, length-replicate, get_or-replicate, get_or-take, length-take-le, drop_at}
+use Rattle.std.proofs.lemmas.List.{length-map, length-replicate, get_or-replicate, get_or-take, length-take-le, drop_at, map-append, take_more}
 use Rattle.std.proofs.lemmas.List.Elements.{All-nil, All-cons, All-weaker, All-filter}
 use Rattle.mm_field.specs.declared.Field.{Field}
 use Rattle.mm_field.specs.Vectors.{zeros, vector_sum, combination, IsVector, AreVectors, InSpan, IsWithin}
@@ -13,7 +13,8 @@ use Rattle.mm_linear.specs.ReducedEchelon.{Leads}
 use Rattle.mm_linear.proofs.BasisLemmas.{ended}
 use Rattle.mm_linear.proofs.PivotLemmas.{tail_when_zero, entry_of_cut, take-shorter, cut-ended, last-ended}
 use Rattle.mm_logic_laws.proofs.MatrixLemmas.{all_zero, zeros_all}
-use Rattle.mm_present.specs.Dependencies.{is_zero_before, tails}
+use Rattle.mm_present.specs.Dependencies.{is_zero_before, tails, with_boundary, least_place}
+use Rattle.mm_present.proofs.LeastLemmas.{least_place-append}
 
 pub zero_before : (f : Field) (c m : ℕ) (v : List ℕ) → IsVector f (c + m) v → is_zero_before c v ≡ true → take c v ≡ zeros c
 zero_before f c m v h e = all_zero (take c v) e ∙ ap zeros (length-take-le c v (let l = h.len in omega arith))
@@ -92,3 +93,38 @@ tails_span f c m from (v ∷ vs) (x ∷ ks) w h hr p z = elim (cases_lt x c) [
         let at : get_or v x 0 ≡ 0 = sym (get_or-take c v x 0 l) ∙ ap (λ u. get_or u x 0) cut ∙ get_or-replicate c x 0 0 l in
         let one : get_or v x 0 ≡ 1 = entry_of_cut x v (ended x 1) h.2 ∙ last-ended x 1 in
         let bad : 0 ≡ 1 = sym at ∙ one in absurd (omega (arith, bad)))
+
+-- ---- more rows
+
+filter-append : (p : List ℕ → Bool) (xs ys : List (List ℕ)) → filter p (xs ++ ys) ≡ filter p xs ++ filter p ys
+filter-append p [] ys = refl
+filter-append p (x ∷ xs) ys = go (p x) (filter-append p xs ys)
+  where
+    go : (b : Bool) → filter p (xs ++ ys) ≡ filter p xs ++ filter p ys →
+        cond b (x ∷ filter p (xs ++ ys)) (filter p (xs ++ ys)) ≡ cond b (x ∷ filter p xs) (filter p xs) ++ filter p ys
+    go true e = ap (λ vs. x ∷ vs) e
+    go false e = e
+
+pub tails-append : (c : ℕ) (rows sows : List (List ℕ)) → tails c (rows ++ sows) ≡ tails c rows ++ tails c sows
+tails-append c rows sows =
+    ap (map (drop c)) (filter-append (is_zero_before c) rows sows)
+    ∙ map-append (drop c) (filter (is_zero_before c) rows) (filter (is_zero_before c) sows)
+
+pub with_boundary-append : (t : ℕ) (rows sows : List (List ℕ)) → with_boundary t (rows ++ sows) ≡ with_boundary t rows ++ with_boundary t sows
+with_boundary-append t rows sows = filter-append (λ row. not (is_zero_before t row)) rows sows
+
+-- one more of the rows of a list
+pub next_pairs : (c t i : ℕ) (rows : List (List ℕ)) (row : List ℕ) → i < length rows → row ≡ get_or rows i [] →
+    with_boundary t (tails c (take i rows)) ++ with_boundary t (tails c (row ∷ [])) ≡ with_boundary t (tails c (take (i + 1) rows))
+next_pairs c t i rows row l e =
+    sym (with_boundary-append t (tails c (take i rows)) (tails c (row ∷ [])))
+    ∙ ap (with_boundary t) (sym (tails-append c (take i rows) (row ∷ [])))
+    ∙ ap (λ vs. with_boundary t (tails c vs)) (ap (λ v. take i rows ++ v ∷ []) e ∙ sym (take_more rows i [] l))
+
+pub next_least : (c t i : ℕ) (rows : List (List ℕ)) (row : List ℕ) (least : Option ℕ) → i < length rows → row ≡ get_or rows i [] →
+    least_place (least_place least (tails t (tails c (take i rows)))) (tails t (tails c (row ∷ []))) ≡ least_place least (tails t (tails c (take (i + 1) rows)))
+next_least c t i rows row least l e =
+    sym (least_place-append least (tails t (tails c (take i rows))) (tails t (tails c (row ∷ []))))
+    ∙ ap (least_place least)
+    (sym (tails-append t (tails c (take i rows)) (tails c (row ∷ []))) ∙ ap (tails t) (sym (tails-append c (take i rows) (row ∷ [])))
+    ∙ ap (λ vs. tails t (tails c vs)) (ap (λ v. take i rows ++ v ∷ []) e ∙ sym (take_more rows i [] l)))

@@ -3,9 +3,13 @@ use Rattle.std.specs.Prelude.{ℕ, ◌+◌, ◌≡◌, ◌==◌, ◌&&◌, Bool,
 use Rattle.std.specs.List.{list_all, position}
 use Rattle.mm_field.specs.declared.Field.{Field}
 use Rattle.mm_field.specs.Vectors.{zeros, combination, times_matrix, IsVector, InSpan}
+use Rattle.mm_linear.specs.ReducedEchelon.{reduced_basis}
+use Rattle.mm_logic.specs.Operator.{row_length}
 use Rattle.mm_logic.specs.PresentMatrix.{internal, boundary_rows}
 use Rattle.mm_logic.specs.Tree.{Tree, size, boundary}
+use Rattle.mm_logic_laws.specs.MatrixLaws.{digits_at_join}
 use Rattle.mm_matrix.specs.Orthogonal.{dot}
+use Rattle.mm_ops.specs.OpValue.{OpValue}
 use Rattle.mm_present.specs.Joining.{internal_rows}
 
 -- the sums of products of a vector with some rows
@@ -67,6 +71,13 @@ least_place least (v ∷ vs) = least_place (lesser least (first_nonzero v)) vs
 abbrev pub candidate : Field → (r t t3 : ℕ) → List (List ℕ) → List ℕ → List ℕ
 candidate f r t t3 digits z =
     drop t3 (times_matrix f r digits (take t z)) ++ (take t3 (times_matrix f r digits (take t z)) ++ drop t z)
+
+-- the rows of boundary digits and given digits at a join, from those of its children, of which some may have zeros as boundary digits
+unfoldable pub joined_pairs : OpValue → ℕ → (left right : List (List ℕ)) → List (List ℕ)
+joined_pairs op g left right =
+    tails op.op.c (reduced_basis op.f (op.op.c + (op.op.t3 + g))
+    (map (candidate op.f (row_length op.op) op.op.t1 op.op.t3 (digits_at_join op.f op.op op.op.g1)) left
+    ++ map (candidate op.f (row_length op.op) op.op.t2 op.op.t3 (digits_at_join op.f op.op op.op.g2)) right))
 
 -- What a walk over a tree finds: pairs, and the least place of a fault, which may be one from before.
 pub record Finds (f : Field) (g : ℕ) (T : Tree) (given pairs : List (List ℕ)) (before after : Option ℕ) : Type 0 where

@@ -4,6 +4,7 @@
 mod collecting;
 mod comparison;
 mod coordinates;
+mod dependencies;
 mod independence;
 mod join_cache;
 mod join_rows;

@@ -1,0 +1,172 @@
+//! What the dependencies of a tree's columns make of given columns over the same elements, from the leaves up.
+//!
+//! A pair is the boundary digits of a combination of columns whose internal digits are zero, with the same combination of the given
+//! columns. A node hands on a few pairs that span all of its pairs. One with zero boundary digits is a fault: no row with another
+//! product than zero is in the row space of the tree's matrix.
+
+ghost use Rattle.std.specs.Prelude.{◌≡◌, ◌==◌, ◌≤◌, ◌<◌, ◌+◌, ◌-◌, ◌++◌, [], ◌∷◌, length, map, take, drop, IfOk, OnOk};
+ghost use Rattle.std.specs.List.{list_all, range_with_len};
+ghost use Rattle.mm_field.specs.Vectors.{IsVector, AreDigits};
+ghost use Rattle.mm_logic.specs.Operator.{row_length};
+ghost use Rattle.mm_logic.specs.Tree as shapes;
+ghost use Rattle.mm_linear.specs.ReducedEchelon.{reduced_basis};
+ghost use Rattle.mm_matrix.specs.Columns.{column};
+ghost use Rattle.mm_matrix.specs.MatrixValue.{MatrixValue};
+ghost use Rattle.mm_present.specs.Comparing.{first_outside, present_rows};
+ghost use Rattle.mm_present.specs.Dependencies.{Finds, candidate, first_nonzero, is_zero_before, joined_pairs, least_place, lesser, tails, with_boundary};
+ghost use Rattle.mm_tree.specs.NamedTree.{shape};
+ghost use Rattle.mm_tree.specs.Nodes.{named, named_leaf, IsOver};
+
+use crate::join_cache::KnownOperators;
+use crate::vectors::digits_of;
+use mm_base::NoMemory;
+use mm_field::{Field, lanes};
+use mm_matrix::{Echelon, Matrix, combination};
+use mm_ops::Op;
+use mm_space::Vector;
+use mm_tree::{Leaf, Node};
+use std::alloc::Global;
+
+/// Whether all digits are zero.
+fn is_zero(digits: &[u8]) -> bool
+    ensures { result ≡ list_all (λ d. d == 0) digits.now }
+{
+    digits.iter().all(|d| *d == 0)
+}
+
+/// The least place with a digit other than 0.
+fn first_nonzero(digits: &[u8]) -> Option<usize>
+    ensures { result ≡ first_nonzero digits.now }
+{
+    lanes::first_nonzero(digits)
+}
+
+/// The lesser of two places, of which each may be missing.
+fn lesser(first: Option<usize>, second: Option<usize>) -> Option<usize>
+    ensures { result ≡ lesser first second }
+{
+    match first {
+        None => second,
+        Some(i) => match second {
+            None => Some(i),
+            Some(j) => {
+                if j < i {
+                    Some(j)
+                } else {
+                    Some(i)
+                }
+            }
+        },
+    }
+}
+
+/// Puts a row after the pairs, unless its t boundary digits are zero: then `least` is made the least place of it and earlier faults.
+fn put_pair(alloc: Global, t: usize, row: &[u8], pairs: &mut Matrix, least: &mut Option<usize>) -> Result<(), NoMemory>
+    requires vector { IsVector pairs.old.f pairs.old.cols row.now }
+    requires boundary { t ≤ pairs.old.cols }
+    ensures pairs { OnOk result (pairs.new ≡ record pairs.old { rows = pairs.old.rows ++ with_boundary t (row.now ∷ []) }) }
+    ensures least { OnOk result (least.new ≡ least_place least.old (tails t (row.now ∷ []))) }
+{
+    if is_zero(&row[..t]) {
+        *least = lesser(*least, first_nonzero(&row[t..]));
+        return Ok(());
+    }
+    pairs.push_row(alloc, row)
+}
+
+/// The same for what is left of a row whose first c digits are zero; no other row counts.
+fn put_tail(
+    alloc: Global,
+    c: usize,
+    t: usize,
+    row: &[u8],
+    pairs: &mut Matrix,
+    least: &mut Option<usize>,
+) -> Result<(), NoMemory>
+    requires vector { IsVector pairs.old.f (c + pairs.old.cols) row.now }
+    requires boundary { t ≤ pairs.old.cols }
+    ensures pairs { OnOk result (pairs.new ≡ record pairs.old { rows = pairs.old.rows ++ with_boundary t (tails c (row.now ∷ [])) }) }
+    ensures least { OnOk result (least.new ≡ least_place least.old (tails t (tails c (row.now ∷ [])))) }
+{
+    if !is_zero(&row[..c]) {
+        return Ok(());
+    }
+    put_pair(alloc, t, &row[c..], pairs, least)
+}
+
+/// The rows of a matrix whose first c digits are zero, without these digits, as pairs of t boundary digits and given digits.
+fn pairs_of_tails(
+    alloc: Global,
+    space: &Matrix,
+    c: usize,
+    t: usize,
+    cols: usize,
+    least: &mut Option<usize>,
+) -> Result<Matrix, NoMemory>
+    requires width { space.now.cols ≡ c + cols }
+    requires boundary { t ≤ cols }
+    ensures pairs { IfOk result (λ m. m ≡ record { f = space.now.f; cols = cols; rows = with_boundary t (tails c space.now.rows) }) }
+    ensures least { OnOk result (least.new ≡ least_place least.old (tails t (tails c space.now.rows))) }
+{
+    let mut pairs = Matrix::new(alloc, space.field(), cols);
+    for i in 0..space.rows() {
+        put_tail(alloc, c, t, space.row(i), &mut pairs, least)?;
+    }
+    Ok(pairs)
+}
+
+/// The digits of a row from place t3 on, the first t3, and more digits.
+fn with_boundary_last(alloc: Global, t3: usize, row: &[u8], more: &[u8]) -> Result<Vec<u8>, NoMemory>
+    requires { t3 ≤ length row.now }
+    ensures { IfOk result (λ v. v.items ≡ drop t3 row.now ++ (take t3 row.now ++ more.now)) }
+{
+    let mut digits = row[t3..].to_vec(alloc)?;
+    digits.extend_from_slice(&row[..t3])?;
+    digits.extend_from_slice(more)?;
+    Ok(digits)
+}
+
+/// A pair of a child as a row of a join: its new internal digits, its boundary digits, its given digits.
+fn candidate(
+    alloc: Global,
+    digits: &Matrix,
+    t: usize,
+    t3: usize,
+    row: &[u8],
+) -> Result<Vec<u8>, NoMemory>
+    requires count { length digits.now.rows ≡ t }
+    requires row { t ≤ length row.now }
+    requires vector { AreDigits digits.now.f row.now }
+    requires boundary { t3 ≤ digits.now.cols }
+    ensures { IfOk result (λ v. v.items ≡ candidate digits.now.f digits.now.cols t t3 digits.now.rows row.now) }
+{
+    let _ = digits.rows();
+    let image = combination(alloc, &row[..t], digits)?;
+    with_boundary_last(alloc, t3, &image, &row[t..])
+}
+
+/// Puts the pairs of a child, as rows of a join, after the candidates.
+fn put_candidates(
+    alloc: Global,
+    digits: &Matrix,
+    t: usize,
+    t3: usize,
+    pairs: &Matrix,
+    candidates: &mut Matrix,
+) -> Result<(), NoMemory>
+    requires count { length digits.now.rows ≡ t }
+    requires field { digits.now.f ≡ pairs.now.f }
+    requires same { candidates.old.f ≡ pairs.now.f }
+    requires boundary { t3 ≤ digits.now.cols }
+    requires width { t + candidates.old.cols ≡ digits.now.cols + pairs.now.cols }
+    requires room { t ≤ pairs.now.cols }
+    ensures { OnOk result (candidates.new ≡ record candidates.old {
+      rows = candidates.old.rows ++ map (candidate digits.now.f digits.now.cols t t3 digits.now.rows) pairs.now.rows }) }
+{
+    let _ = digits.rows();
+    for i in 0..pairs.rows() {
+        let row = candidate(alloc, digits, t, t3, pairs.row(i))?;
+        candidates.push_row(alloc, &row)?;
+    }
+    Ok(())
+}
