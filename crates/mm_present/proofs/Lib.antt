@@ -16,3 +16,4 @@ mod AccountLemmas
 mod LeastLemmas
 mod LeafLemmas
 mod FaultLemmas
+mod WalkLemmas

@@ -1,14 +1,17 @@
 -- Dependencies of the columns of a tree's matrix, and what they make of given columns over the same elements.
-use Rattle.std.specs.Prelude.{ℕ, ◌+◌, ◌≡◌, ◌==◌, ◌&&◌, Bool, true, not, cond, Option, Some, None, nat_lt, List, [], ◌∷◌, ◌++◌, map, filter, take, drop, All}
+use Rattle.std.specs.Prelude.{ℕ, ◌+◌, ◌≡◌, ◌==◌, ◌&&◌, Bool, true, not, cond, Option, Some, None, nat_lt, List, [], ◌∷◌, ◌++◌, map, filter, take, drop, All, IfOk, OnOk}
 use Rattle.std.specs.List.{list_all, position}
 use Rattle.mm_field.specs.declared.Field.{Field}
-use Rattle.mm_field.specs.Vectors.{zeros, combination, times_matrix, IsVector, InSpan}
+use Rattle.mm_field.specs.Vectors.{zeros, combination, times_matrix, IsVector, AreVectors, InSpan}
 use Rattle.mm_linear.specs.ReducedEchelon.{reduced_basis}
 use Rattle.mm_logic.specs.Operator.{row_length}
 use Rattle.mm_logic.specs.PresentMatrix.{internal, boundary_rows}
 use Rattle.mm_logic.specs.Tree.{Tree, size, boundary}
 use Rattle.mm_logic_laws.specs.MatrixLaws.{digits_at_join}
 use Rattle.mm_matrix.specs.Orthogonal.{dot}
+use Rattle.mm_matrix.specs.MatrixValue.{MatrixValue}
+use Rattle.mm_base.specs.declared.failure.NoMemory.{NoMemory}
+use Rattle.std.specs.declared.result.Result.{Result}
 use Rattle.mm_ops.specs.OpValue.{OpValue}
 use Rattle.mm_present.specs.Joining.{internal_rows}
 
@@ -84,3 +87,16 @@ pub record Finds (f : Field) (g : ℕ) (T : Tree) (given pairs : List (List ℕ)
   pub faults : List (List ℕ)
   pub account : Account f g T given pairs faults
   pub least : after ≡ least_place before faults
+
+-- a matrix of rows of t boundary digits and given digits
+pub record ArePairs (f : Field) (t given : ℕ) (m : MatrixValue) : Type 0 where
+  pub field : m.f ≡ f
+  pub width : m.cols ≡ t + given
+  pub each : AreVectors f m.cols m.rows
+
+-- The outcome of a walk over a tree whose elements have the given columns from place `next` on.
+abbrev pub Walks : Field → Tree → (columns : MatrixValue) → (next after : ℕ) → (before least : Option ℕ) → Result MatrixValue NoMemory → Type 0
+Walks f T columns next after before least result =
+    OnOk result (after ≡ next + size T)
+    × IfOk result (λ pairs. ArePairs f (boundary T) columns.cols pairs
+    × Finds f columns.cols T (take (size T) (drop next columns.rows)) pairs.rows before least)

@@ -13,7 +13,7 @@ ghost use Rattle.mm_linear.specs.ReducedEchelon.{reduced_basis};
 ghost use Rattle.mm_matrix.specs.Columns.{column};
 ghost use Rattle.mm_matrix.specs.MatrixValue.{MatrixValue};
 ghost use Rattle.mm_present.specs.Comparing.{first_outside, present_rows};
-ghost use Rattle.mm_present.specs.Dependencies.{Finds, candidate, first_nonzero, is_zero_before, joined_pairs, least_place, lesser, tails, with_boundary};
+ghost use Rattle.mm_present.specs.Dependencies.{ArePairs, Walks, candidate, first_nonzero, joined_pairs, least_place, lesser, tails, with_boundary};
 ghost use Rattle.mm_tree.specs.NamedTree.{shape};
 ghost use Rattle.mm_tree.specs.Nodes.{named, named_leaf, IsOver};
 
@@ -26,6 +26,13 @@ use mm_ops::Op;
 use mm_space::Vector;
 use mm_tree::{Leaf, Node};
 use std::alloc::Global;
+
+/// The number of digits of rows in two parts. No memory holds rows of more digits than a number counts.
+fn width(first: usize, second: usize) -> Result<usize, NoMemory>
+    ensures { IfOk result (λ cols. cols ≡ first + second) }
+{
+    first.checked_add(second).ok_or(NoMemory)
+}
 
 /// Whether all digits are zero.
 fn is_zero(digits: &[u8]) -> bool
@@ -169,4 +176,112 @@ fn put_candidates(
         candidates.push_row(alloc, &row)?;
     }
     Ok(())
+}
+
+/// The pairs of a join that its children's make. Its faults and those before are noted.
+fn join_pairs(
+    alloc: Global,
+    op: &Op,
+    known: &mut KnownOperators,
+    given: usize,
+    left: Matrix,
+    right: Matrix,
+    least: &mut Option<usize>,
+) -> Result<Matrix, NoMemory>
+    requires left { ArePairs op.now.f op.now.op.t1 given left }
+    requires right { ArePairs op.now.f op.now.op.t2 given right }
+    ensures pairs { IfOk result (λ m. m ≡ record {
+      f = op.now.f;
+      cols = op.now.op.t3 + given;
+      rows = with_boundary op.now.op.t3 (joined_pairs op.now given left.rows right.rows);
+    }) }
+    ensures least { OnOk result (least.new ≡ least_place least.old (tails op.now.op.t3 (joined_pairs op.now given left.rows right.rows))) }
+{
+    let _ = op.field();
+    let (c, t3) = (op.c() as usize, op.t3() as usize);
+    let cols = width(t3, given)?;
+    let digits = known.digits(alloc, op)?;
+    let mut candidates = Matrix::new(alloc, op.field(), width(c, cols)?);
+    put_candidates(alloc, &digits.first, op.t1() as usize, t3, &left, &mut candidates)?;
+    put_candidates(alloc, &digits.second, op.t2() as usize, t3, &right, &mut candidates)?;
+    let space = Echelon::of(alloc, &candidates)?.into_matrix();
+    pairs_of_tails(alloc, &space, c, t3, cols, least)
+}
+
+/// The pairs of a leaf with an element, whose given column is `column`.
+fn element_pairs(
+    alloc: Global,
+    f: Field,
+    vec: &Vector,
+    column: &[u8],
+    least: &mut Option<usize>,
+) -> Result<Matrix, NoMemory>
+    requires digits { AreDigits f vec.now }
+    requires column { AreDigits f column.now }
+    ensures pairs { IfOk result (λ m. m ≡ record {
+      f = f;
+      cols = length vec.now + length column.now;
+      rows = with_boundary (length vec.now) ((vec.now ++ column.now) ∷ []);
+    }) }
+    ensures least { OnOk result (least.new ≡ least_place least.old (tails (length vec.now) ((vec.now ++ column.now) ∷ []))) }
+{
+    let mut row = digits_of(alloc, vec)?;
+    row.extend_from_slice(column)?;
+    let mut pairs = Matrix::new(alloc, f, row.len());
+    put_pair(alloc, vec.len() as usize, &row, &mut pairs, least)?;
+    Ok(pairs)
+}
+
+/// The pairs of a leaf. The given columns from `next` on are those of the elements from the leaf on.
+fn leaf_pairs(
+    alloc: Global,
+    f: Field,
+    leaf: &Leaf,
+    columns: &Matrix,
+    next: &mut usize,
+    least: &mut Option<usize>,
+) -> Result<Matrix, NoMemory>
+    requires valid { shapes.IsValid f (shape (named_leaf leaf.now)) }
+    requires field { columns.now.f ≡ f }
+    requires room { next.old + shapes.size (shape (named_leaf leaf.now)) ≤ length columns.now.rows }
+    ensures { Walks f (shape (named_leaf leaf.now)) columns.now next.old next.new least.old least.new result }
+{
+    match &leaf.item {
+        Some(item) => {
+            let column = columns.row(*next);
+            *next += 1;
+            element_pairs(alloc, f, &item.vec, column, least)
+        }
+        None => {
+            let cols = width(leaf.t as usize, columns.cols())?;
+            Ok(Matrix::new(alloc, f, cols))
+        }
+    }
+}
+
+/// The pairs of a node. The given columns from `next` on are those of the elements from the node's first on; after the call `next`
+/// is past the node's. Operators that are not `known` yet are put there.
+pub(crate) fn pairs_of(
+    alloc: Global,
+    f: Field,
+    node: &Node,
+    columns: &Matrix,
+    next: &mut usize,
+    known: &mut KnownOperators,
+    least: &mut Option<usize>,
+) -> Result<Matrix, NoMemory>
+    requires over { IsOver f node.now }
+    requires valid { shapes.IsValid f (shape (named node.now)) }
+    requires field { columns.now.f ≡ f }
+    requires room { next.old + shapes.size (shape (named node.now)) ≤ length columns.now.rows }
+    ensures { Walks f (shape (named node.now)) columns.now next.old next.new least.old least.new result }
+{
+    match node {
+        Node::Leaf(leaf) => leaf_pairs(alloc, f, leaf, columns, next, least),
+        Node::Join(_, op, left, right) => {
+            let first = pairs_of(alloc, f, left, columns, next, known, least)?;
+            let second = pairs_of(alloc, f, right, columns, next, known, least)?;
+            join_pairs(alloc, op, known, columns.cols(), first, second, least)
+        }
+    }
 }
