@@ -246,6 +246,7 @@ fn leaf_pairs(
     requires room { next.old + shapes.size (shape (named_leaf leaf.now)) ≤ length columns.now.rows }
     ensures { Walks f (shape (named_leaf leaf.now)) columns.now next.old next.new least.old least.new result }
 {
+    let _ = columns.rows();
     match &leaf.item {
         Some(item) => {
             let column = columns.row(*next);
@@ -276,6 +277,7 @@ pub(crate) fn pairs_of(
     requires room { next.old + shapes.size (shape (named node.now)) ≤ length columns.now.rows }
     ensures { Walks f (shape (named node.now)) columns.now next.old next.new least.old least.new result }
 {
+    let _ = columns.rows();
     match node {
         Node::Leaf(leaf) => leaf_pairs(alloc, f, leaf, columns, next, least),
         Node::Join(_, op, left, right) => {
