@@ -17,3 +17,4 @@ mod LeastLemmas
 mod LeafLemmas
 mod FaultLemmas
 mod WalkLemmas
+mod RootLemmas

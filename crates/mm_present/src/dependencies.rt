@@ -24,7 +24,7 @@ use mm_field::{Field, lanes};
 use mm_matrix::{Echelon, Matrix, combination};
 use mm_ops::Op;
 use mm_space::Vector;
-use mm_tree::{Leaf, Node};
+use mm_tree::{Leaf, Node, Tree};
 use std::alloc::Global;
 
 /// The number of digits of rows in two parts. No memory holds rows of more digits than a number counts.
@@ -286,4 +286,55 @@ pub(crate) fn pairs_of(
             join_pairs(alloc, op, known, columns.cols(), first, second, least)
         }
     }
+}
+
+/// The columns of a matrix, each as a row.
+fn columns_of(alloc: Global, m: &Matrix) -> Result<Matrix, NoMemory>
+    ensures { IfOk result (λ c. c ≡ record { f = m.now.f; cols = length m.now.rows; rows = map (column m.now.rows) (range_with_len 0 m.now.cols) }) }
+{
+    let mut places = Vec::new(alloc);
+    for j in 0..m.cols() {
+        places.push(j)?;
+    }
+    m.columns(alloc, &places)
+}
+
+/// Notes the faults among the combinations of the pairs of a whole tree, whose boundary has t digits.
+fn note_last_faults(
+    alloc: Global,
+    pairs: &Matrix,
+    t: usize,
+    given: usize,
+    least: &mut Option<usize>,
+) -> Result<(), NoMemory>
+    requires { pairs.now.cols ≡ t + given }
+    ensures { OnOk result (least.new ≡ least_place least.old (tails t (reduced_basis pairs.now.f pairs.now.cols pairs.now.rows))) }
+{
+    let space = Echelon::of(alloc, pairs)?.into_matrix();
+    pairs_of_tails(alloc, &space, t, 0, given, least)?;
+    Ok(())
+}
+
+/// The least given row, counted from 0, that is outside the row space of the tree's matrix; None where all are inside.
+pub(crate) fn first_given_outside(alloc: Global, given: &Matrix, tree: &Tree) -> Result<Option<usize>, NoMemory>
+    requires field { given.now.f ≡ tree.now.f }
+    requires columns { given.now.cols ≡ shapes.size (shape tree.now.tree) }
+    ensures { IfOk result (λ found. found ≡ first_outside given.now.f given.now.cols given.now.rows (present_rows tree.now.f tree.now.tree)) }
+{
+    let _ = given.rows();
+    let columns = columns_of(alloc, given)?;
+    let mut next = 0;
+    let mut least = None;
+    let pairs = pairs_of(
+        alloc,
+        tree.field(),
+        tree.node(),
+        &columns,
+        &mut next,
+        &mut KnownOperators::new(alloc),
+        &mut least,
+    )?;
+    let t = pairs.cols() - columns.cols();
+    note_last_faults(alloc, &pairs, t, columns.cols(), &mut least)?;
+    Ok(least)
 }
