@@ -4,7 +4,7 @@
 //! columns. A node hands on a few pairs that span all of its pairs. One with zero boundary digits is a fault: no row with another
 //! product than zero is in the row space of the tree's matrix.
 
-ghost use Rattle.std.specs.Prelude.{◌≡◌, ◌==◌, ◌≤◌, ◌<◌, ◌+◌, ◌-◌, ◌++◌, [], ◌∷◌, length, map, take, drop, IfOk, OnOk};
+ghost use Rattle.std.specs.Prelude.{◌≡◌, ◌==◌, ◌≤◌, ◌<◌, ◌+◌, ◌-◌, ◌^◌, ◌++◌, [], ◌∷◌, length, map, take, drop, IfOk, IfSome, OnOk};
 ghost use Rattle.std.specs.List.{list_all, range_with_len};
 ghost use Rattle.mm_field.specs.Vectors.{IsVector, AreDigits};
 ghost use Rattle.mm_logic.specs.Operator.{row_length};
@@ -319,7 +319,8 @@ fn note_last_faults(
 pub(crate) fn first_given_outside(alloc: Global, given: &Matrix, tree: &Tree) -> Result<Option<usize>, NoMemory>
     requires field { given.now.f ≡ tree.now.f }
     requires columns { given.now.cols ≡ shapes.size (shape tree.now.tree) }
-    ensures { IfOk result (λ found. found ≡ first_outside given.now.f given.now.cols given.now.rows (present_rows tree.now.f tree.now.tree)) }
+    ensures first { IfOk result (λ found. found ≡ first_outside given.now.f given.now.cols given.now.rows (present_rows tree.now.f tree.now.tree)) }
+    ensures small { IfOk result (λ found. IfSome found (λ i. i + 1 < 2 ^ 64)) }
 {
     let _ = given.rows();
     let columns = columns_of(alloc, given)?;
