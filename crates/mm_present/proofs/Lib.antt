@@ -18,3 +18,5 @@ mod LeafLemmas
 mod FaultLemmas
 mod WalkLemmas
 mod RootLemmas
+mod ImageLemmas
+mod ImageWalkLemmas

@@ -4,3 +4,4 @@ pub mod Joining
 pub mod JoinCache
 pub mod Ordering
 pub mod Dependencies
+pub mod Images

@@ -10,6 +10,7 @@ ghost use Rattle.mm_present.specs.Ordering.{IsPlaceBelow};
 
 use crate::Named;
 use crate::dependencies::first_given_outside;
+use crate::images::are_present_inside;
 use crate::present::matrix_of;
 use indexmap::IndexSet;
 use mm_base::{Name, NameList, NoMemory};
@@ -122,6 +123,9 @@ fn compare_rows(alloc: Global, given: &Matrix, tree: &Tree) -> Result<Verdict, N
 {
     if let Some(i) = first_given_outside(alloc, given, tree)? {
         return Ok(Verdict::Given(i + 1));
+    }
+    if are_present_inside(alloc, given, tree)? {
+        return Ok(Verdict::Same);
     }
     let present = matrix_of(alloc, tree)?;
     match outside(alloc, &present.rows, given)? {

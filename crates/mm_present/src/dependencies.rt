@@ -35,7 +35,7 @@ fn width(first: usize, second: usize) -> Result<usize, NoMemory>
 }
 
 /// Whether all digits are zero.
-fn is_zero(digits: &[u8]) -> bool
+pub(crate) fn is_zero(digits: &[u8]) -> bool
     ensures { result ≡ list_all (λ d. d == 0) digits.now }
 {
     digits.iter().all(|d| *d == 0)
@@ -289,7 +289,7 @@ pub(crate) fn pairs_of(
 }
 
 /// The columns of a matrix, each as a row.
-fn columns_of(alloc: Global, m: &Matrix) -> Result<Matrix, NoMemory>
+pub(crate) fn columns_of(alloc: Global, m: &Matrix) -> Result<Matrix, NoMemory>
     ensures { IfOk result (λ c. c ≡ record { f = m.now.f; cols = length m.now.rows; rows = map (column m.now.rows) (range_with_len 0 m.now.cols) }) }
 {
     let mut places = Vec::new(alloc);
