@@ -20,3 +20,4 @@ mod WalkLemmas
 mod RootLemmas
 mod ImageLemmas
 mod ImageWalkLemmas
+mod WholeSpaceLemmas

@@ -5,3 +5,4 @@ pub mod JoinCache
 pub mod Ordering
 pub mod Dependencies
 pub mod Images
+pub mod WholeSpaces
