@@ -1,16 +1,14 @@
 -- Pairs and faults account for a node: at a join, after faults are taken out, and at the root.
-use Rattle.std.proofs.Common.{ℕ, ◌+◌, ◌≡◌, Bool, true, false, not, List, [], ◌∷◌, ◌++◌, length, map, filter, take, drop, get_or, refl, sym, ap, ap₂, subst, ◌∙◌, arith, Contains, append_assoc, take-append-drop}
+use Rattle.std.proofs.Common.{ℕ, ◌+◌, ◌≡◌, Bool, true, false, not, List, [], ◌∷◌, ◌++◌, length, map, filter, take, drop, get_or, refl, sym, ap, ap₂, subst, ◌∙◌, arith}
 use Rattle.std.specs.List.{All}
 use Rattle.std.proofs.lemmas.List.{map-append, length-map, length-replicate, take_at, drop_at, get_or_default}
 use Rattle.std.proofs.lemmas.List.FromFn.{length-map-range_with_len}
 use Rattle.std.proofs.lemmas.List.Elements.{All-nil, All-cons, All-head, All-tail, All-append, All-weaker, All-filter, All-map, All-take, All-drop}
-use Rattle.std.proofs.lemmas.Simd.{map-map}
 use Rattle.mm_field.specs.declared.Field.{Field}
 use Rattle.mm_field.specs.Vectors.{zeros, vector_sum, multiple, combination, IsVector, AreVectors, InSpan, IsWithin, SameRowSpace}
 use Rattle.mm_field.proofs.VectorLemmas.{multiple-zeros, vector_sum-zeros, zeros-vector_sum, IsVector-zeros}
 use Rattle.mm_field.proofs.CombinationLemmas.{zeros_twice, IsVector-combination, InSpan-vector_sum, InSpan-within, IsWithin-itself, IsWithin-within, take-vector_sum, drop-vector_sum, vector_sum-append, multiple-append}
 use Rattle.mm_field.proofs.PartLemmas.{combination-map, AreVectors-map, IsVector-append, IsVector-take, zeros-append, append_parts}
-use Rattle.mm_linear.specs.ReducedEchelon.{Leads}
 use Rattle.mm_linear.proofs.SpanLemmas.{InSum-from_append, append_from_InSum, append_left_in, append_right_in}
 use Rattle.mm_linear.proofs.SubspaceTests.{IsLinear, Contains-filter, Contains-map}
 use Rattle.mm_logic.specs.Operator.{Op, row_length}
@@ -23,7 +21,7 @@ use Rattle.mm_matrix.specs.Residues.{AreReduced}
 use Rattle.mm_matrix.proofs.FreeLemmas.{member_in_span}
 use Rattle.mm_present.specs.Dependencies.{products, pair_of, candidate, after_zeros, tails, with_boundary, is_zero_before, IsInner, IsPair, Account}
 use Rattle.mm_present.proofs.ProductLemmas.{digits_are}
-use Rattle.mm_present.proofs.PairLemmas.{pair_vector, boundary_digits, IsPair-zeros, IsPair-span, IsLinear-candidate, candidate_zeros, pair_at_join, new_digits, inner_at_join, inner_parts}
+use Rattle.mm_present.proofs.PairLemmas.{pair_vector, IsPair-zeros, IsPair-span, IsLinear-candidate, candidate_zeros, pair_at_join, new_digits, inner_at_join, inner_parts}
 use Rattle.mm_present.proofs.TailLemmas.{row_of_tail, tails_within, AreVectors-tails, tails_span}
 
 -- ---- spans under linear maps

@@ -1,5 +1,5 @@
 -- The least given row outside the row space of a tree's matrix is the least place of a fault.
-use Rattle.std.proofs.Common.{ℕ, ◌+◌, ◌<◌, ◌≡◌, ◌≢◌, inl, inr, true, false, not, Option, Some, None, List, [], ◌∷◌, ◌++◌, length, map, get_or, refl, sym, ap, ap₂, subst, ◌∙◌, arith, ext_get_or}
+use Rattle.std.proofs.Common.{ℕ, ◌+◌, ◌<◌, ◌≡◌, ◌≢◌, inl, inr, not, Option, Some, None, List, [], ◌++◌, length, map, get_or, sym, ap, subst, ◌∙◌, arith, ext_get_or}
 use Rattle.std.specs.List.{range_with_len, All}
 use Rattle.std.proofs.lemmas.List.{length-map, length-replicate, get_or-map, get_or-replicate, get_or_past}
 use Rattle.std.proofs.lemmas.Bool.{cases_lt}
@@ -7,7 +7,6 @@ use Rattle.std.proofs.lemmas.List.FromFn.{length-map-range_with_len, get_or-map-
 use Rattle.std.proofs.lemmas.List.Elements.{All-append}
 use Rattle.mm_field.specs.declared.Field.{Field}
 use Rattle.mm_field.specs.Vectors.{zeros, combination, IsVector, AreVectors, InSpan}
-use Rattle.mm_field.proofs.CombinationLemmas.{IsVector-combination}
 use Rattle.mm_field.proofs.PartLemmas.{append_parts}
 use Rattle.mm_linear.specs.Decide.{is_in_span}
 use Rattle.mm_logic.specs.PresentMatrix.{boundary_rows, matrix_row, internal, row_of}
@@ -18,7 +17,7 @@ use Rattle.mm_matrix.proofs.ColumnLemmas.{IsVector-column}
 use Rattle.mm_matrix.proofs.DotLemmas.{dot-comm, orthogonal_to_combination}
 use Rattle.mm_matrix.proofs.FreeLemmas.{zero_in_span}
 use Rattle.mm_present.specs.Comparing.{first_outside}
-use Rattle.mm_present.specs.Dependencies.{products, pair_of, least_place, IsInner, IsPair}
+use Rattle.mm_present.specs.Dependencies.{products, least_place, IsInner}
 use Rattle.mm_present.specs.Joining.{internal_rows}
 use Rattle.mm_present.proofs.AccountLemmas.{AllFaults, All-left, All-right}
 use Rattle.mm_present.proofs.CompareLemmas.{position_found, position_none, inside_true, outside_true}
@@ -73,7 +72,7 @@ module _ (f : Field) (T : Tree) (ok : IsValid f T) where
           ∙ ap zeros (length-internal_rows f T);
     },
     products_of_orthogonal f (boundary_rows f T) x (All-left (λ v. dot f v x ≡ 0) (boundary_rows f T) (internal_rows f T) o)
-    ∙ ap zeros (length-boundary_rows f T),
+        ∙ ap zeros (length-boundary_rows f T),
   )
 
   pub orthogonal_of_inner : (x : List ℕ) → IsInner f T x → products f (boundary_rows f T) x ≡ zeros (boundary T) → IsOrthogonal f rows x

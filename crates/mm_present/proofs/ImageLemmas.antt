@@ -1,9 +1,9 @@
 -- What the rows of a tree's matrix make of given columns: at a join, and of the vectors that are orthogonal to given rows.
-use Rattle.std.proofs.Common.{ℕ, ◌+◌, ◌<◌, ◌≡◌, true, false, Bool, ◌&&◌, List, [], ◌∷◌, ◌++◌, length, map, take, drop, get_or, refl, sym, ap, ap₂, subst, ◌∙◌, arith, ext_get_or}
+use Rattle.std.proofs.Common.{ℕ, ◌+◌, ◌<◌, ◌≡◌, true, false, Bool, ◌&&◌, List, [], ◌∷◌, ◌++◌, length, map, get_or, refl, sym, ap, ap₂, ◌∙◌, arith}
 use Rattle.std.specs.Prelude.{nat_eq}
 use Rattle.std.specs.List.{range_with_len, list_all, All}
 use Rattle.std.proofs.lemmas.Bool.{and_parts}
-use Rattle.std.proofs.lemmas.List.{map-append, length-map, length-replicate, get_or-map, get_or-replicate, take_at, drop_at}
+use Rattle.std.proofs.lemmas.List.{map-append, length-map, length-replicate, get_or-map, get_or-replicate}
 use Rattle.std.proofs.lemmas.List.FromFn.{length-map-range_with_len}
 use Rattle.std.proofs.lemmas.List.Elements.{All-nil, All-cons}
 use Rattle.std.proofs.lemmas.Simd.{map-map}
@@ -14,14 +14,13 @@ use Rattle.mm_field.proofs.CombinationLemmas.{first_row, other_rows, combination
 use Rattle.mm_field.proofs.PartLemmas.{AreVectors-map}
 use Rattle.mm_logic.specs.Operator.{Op, row_length}
 use Rattle.mm_logic.specs.PresentMatrix.{boundary_rows, row_of, column_digits}
-use Rattle.mm_logic.specs.Tree.{Tree, size, boundary, IsValid}
+use Rattle.mm_logic.specs.Tree.{Tree, size, IsValid}
 use Rattle.mm_logic.specs.Tree.Tree.{Join}
 use Rattle.mm_logic_laws.specs.MatrixLaws.{digits_at_join}
 use Rattle.mm_logic_laws.proofs.MatrixLemmas.{all_zero as zero_row}
 use Rattle.mm_matrix.specs.Columns.{column}
 use Rattle.mm_matrix.specs.Orthogonal.{dot, IsOrthogonal}
 use Rattle.mm_matrix.proofs.DotLemmas.{dot-comm, dot-combination, all_zero as zero_dot}
-use Rattle.mm_present.specs.Dependencies.{products}
 use Rattle.mm_present.specs.Images.{images, are_zero}
 use Rattle.mm_present.specs.Joining.{boundary_matrix, internal_rows, joined_row}
 use Rattle.mm_present.proofs.FaultLemmas.{columns_are_vectors, row_of_columns}

@@ -1,11 +1,11 @@
 -- The walk over a tree for the images of its rows.
-use Rattle.std.proofs.Common.{ℕ, ◌+◌, ◌≤◌, ◌≡◌, true, false, Bool, ◌&&◌, not, Option, None, List, [], ◌∷◌, ◌++◌, length, map, take, drop, get_or, refl, sym, ap, ap₂, subst, ◌∙◌, arith, take-add}
-use Rattle.std.specs.List.{range_with_len, All}
+use Rattle.std.proofs.Common.{ℕ, ◌+◌, ◌≤◌, ◌≡◌, true, false, Bool, ◌&&◌, not, None, List, [], ◌++◌, length, map, take, drop, get_or, refl, sym, ap, ap₂, subst, ◌∙◌, arith, take-add}
+use Rattle.std.specs.List.{range_with_len}
 use Rattle.std.proofs.lemmas.List.{length-map, length-take-le, length-drop, drop-drop, take_at, drop_at, take_all, map-append}
 use Rattle.std.proofs.lemmas.List.FromFn.{length-map-range_with_len}
-use Rattle.std.proofs.lemmas.List.Elements.{All-append, All-take, All-drop}
+use Rattle.std.proofs.lemmas.List.Elements.{All-take, All-drop}
 use Rattle.mm_field.specs.declared.Field.{Field}
-use Rattle.mm_field.specs.Vectors.{times_matrix, IsVector, AreVectors, InSpan}
+use Rattle.mm_field.specs.Vectors.{times_matrix, IsVector, AreVectors}
 use Rattle.mm_linear.specs.Decide.{is_in_span}
 use Rattle.mm_linear.specs.ReducedEchelon.{reduced_basis}
 use Rattle.mm_linear.proofs.ReducedEchelonLemmas.{reduced_basis_is}
@@ -15,8 +15,8 @@ use Rattle.mm_logic.specs.Tree as shapes
 use Rattle.mm_logic.specs.Tree.Tree.{Join}
 use Rattle.mm_logic_laws.specs.MatrixLaws.{digits_at_join}
 use Rattle.mm_matrix.specs.Columns.{column}
-use Rattle.mm_matrix.specs.MatrixValue.{MatrixValue, reduced}
-use Rattle.mm_matrix.specs.Orthogonal.{IsNullOf, IsOrthogonal}
+use Rattle.mm_matrix.specs.MatrixValue.{MatrixValue}
+use Rattle.mm_matrix.specs.Orthogonal.{IsNullOf}
 use Rattle.mm_matrix.proofs.DotLemmas.{orthogonal_within}
 use Rattle.mm_ops.specs.OpValue.{OpValue}
 use Rattle.mm_present.specs.Comparing.{first_outside, present_rows}
@@ -116,13 +116,13 @@ join_images f op T L R columns left right m next middle before between after las
     subst (λ (S : shapes.Tree). (m ≡ record { f = f; cols = d; rows = images f d (take (shapes.size S) (drop next columns.rows)) (boundary_rows f S) })
     × (last ≡ (before && are_zero (images f d (take (shapes.size S) (drop next columns.rows)) (internal_rows f S))))) (sym eT) (
       em ∙ ap₂ (λ (k : Field) rows. record { f = k; cols = left.cols; rows = rows }) ef first
-      ∙ ap (λ (a : MatrixValue). record { f = f; cols = a.cols; rows = boundary }) e1
-      ∙ ap (λ cs. record { f = f; cols = d; rows = images f d cs (boundary_rows f J) }) (sym given),
+          ∙ ap (λ (a : MatrixValue). record { f = f; cols = a.cols; rows = boundary }) e1
+          ∙ ap (λ cs. record { f = f; cols = d; rows = images f d cs (boundary_rows f J) }) (sym given),
       el ∙ ap₂ (λ a rows. a && are_zero rows) (ea ∙ ap (λ b. b && are_zero ir) eb) rest
-      ∙ all_four before (are_zero il) (are_zero ir) (are_zero own)
-      ∙ ap (λ z. before && z) (ap (λ z. are_zero own && z) (sym (are_zero-append il ir)) ∙ sym (are_zero-append own (il ++ ir))
-      ∙ ap are_zero (sym (internal_images f d o L R gl gr ok hl hr cl)))
-      ∙ ap (λ cs. before && are_zero (images f d cs (internal_rows f J))) (sym given),
+          ∙ all_four before (are_zero il) (are_zero ir) (are_zero own)
+          ∙ ap (λ z. before && z) (ap (λ z. are_zero own && z) (sym (are_zero-append il ir)) ∙ sym (are_zero-append own (il ++ ir))
+          ∙ ap are_zero (sym (internal_images f d o L R gl gr ok hl hr cl)))
+          ∙ ap (λ cs. before && are_zero (images f d cs (internal_rows f J))) (sym given),
     )
 
 -- ---- the whole tree
@@ -134,8 +134,11 @@ pub all_images_zero : (f : Field) (tree : Tree) (given : List (List ℕ)) (space
     AreVectors f (shapes.size (shape tree)) given → space ≡ record { f = f; cols = shapes.size (shape tree); rows = reduced_basis f (shapes.size (shape tree)) given } →
     IsNullOf space kernel → AreVectors kernel.f kernel.cols kernel.rows →
     columns ≡ record { f = kernel.f; cols = length kernel.rows; rows = map (column kernel.rows) (range_with_len 0 kernel.cols) } →
-    rows ≡ record { f = f; cols = columns.cols;
-      rows = images f columns.cols (take (shapes.size (shape tree)) (drop 0 columns.rows)) (boundary_rows f (shape tree)) } →
+    rows ≡ record {
+      f = f;
+      cols = columns.cols;
+      rows = images f columns.cols (take (shapes.size (shape tree)) (drop 0 columns.rows)) (boundary_rows f (shape tree));
+    } →
     zero ≡ (true && are_zero (images f columns.cols (take (shapes.size (shape tree)) (drop 0 columns.rows)) (internal_rows f (shape tree)))) →
     zero ≡ true → are_zero rows.rows ≡ true → None ≡ first_outside f (shapes.size (shape tree)) (present_rows f tree) given
 unfolding present_rows

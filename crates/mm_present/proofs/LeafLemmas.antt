@@ -1,17 +1,16 @@
 -- What accounts for a leaf.
-use Rattle.std.proofs.Common.{ℕ, zero, suc, ◌+◌, ◌<◌, ◌≡◌, List, [], ◌∷◌, ◌++◌, length, map, get_or, refl, sym, ap, ap₂, subst, ◌∙◌, arith}
-use Rattle.std.specs.List.{range_with_len, All}
+use Rattle.std.proofs.Common.{ℕ, suc, ◌+◌, ◌<◌, ◌≡◌, List, [], ◌∷◌, ◌++◌, length, get_or, refl, sym, ap₂, subst, ◌∙◌, arith}
+use Rattle.std.specs.List.{range_with_len}
 use Rattle.std.proofs.lemmas.List.Elements.{All-nil, All-cons}
 use Rattle.std.proofs.lemmas.Simd.{map-map}
 use Rattle.mm_field.specs.declared.Field.{Field}
-use Rattle.mm_field.specs.Digits.{order, plus, times}
-use Rattle.mm_field.specs.Vectors.{zeros, vector_sum, multiple, combination, IsVector, AreVectors, InSpan, AreDigits}
+use Rattle.mm_field.specs.Digits.{order, times}
+use Rattle.mm_field.specs.Vectors.{multiple, combination, IsVector, AreVectors, InSpan, AreDigits}
 use Rattle.mm_field.proofs.Tables.{plus_zero_digit, times_below, one_digit}
 use Rattle.mm_field.proofs.VectorLemmas.{length-multiple, get_or-multiple, vector_sum-zeros, one-multiple, IsVector-multiple}
 use Rattle.mm_field.proofs.CombinationLemmas.{InSpan-zeros, multiple-append}
 use Rattle.mm_field.proofs.PartLemmas.{IsVector-append}
 use Rattle.mm_logic.specs.PresentMatrix.{boundary_rows}
-use Rattle.mm_logic.specs.Tree.{Tree, boundary}
 use Rattle.mm_logic.specs.Tree.Tree.{Elem, Void}
 use Rattle.mm_matrix.specs.Orthogonal.{dot}
 use Rattle.mm_present.specs.Dependencies.{products, pair_of, IsInner, IsPair, Account}

@@ -1,6 +1,6 @@
 -- The whole tree: what its walk finds is the least given row outside its row space.
-use Rattle.std.proofs.Common.{ℕ, ◌+◌, ◌≡◌, true, cond, Option, None, List, [], ◌∷◌, ◌++◌, length, map, filter, take, drop, refl, sym, ap, ap₂, subst, ◌∙◌, arith}
-use Rattle.std.specs.List.{range_with_len, All}
+use Rattle.std.proofs.Common.{ℕ, ◌+◌, ◌≡◌, Option, None, List, [], ◌∷◌, ◌++◌, length, map, take, drop, refl, sym, ap, ap₂, subst, ◌∙◌, arith}
+use Rattle.std.specs.List.{range_with_len}
 use Rattle.std.proofs.lemmas.List.{drop_at, length-replicate, take_all}
 use Rattle.std.proofs.lemmas.List.FromFn.{length-map-range_with_len}
 use Rattle.std.proofs.lemmas.List.Elements.{All-nil, All-cons, All-head, All-tail, All-append}
@@ -9,13 +9,11 @@ use Rattle.mm_field.specs.Vectors.{zeros, IsVector, AreVectors}
 use Rattle.mm_field.proofs.PartLemmas.{IsVector-drop}
 use Rattle.mm_linear.specs.ReducedEchelon.{reduced_basis}
 use Rattle.mm_linear.proofs.ReducedEchelonLemmas.{reduced_basis_is}
-use Rattle.mm_logic.specs.PresentMatrix.{boundary_rows}
 use Rattle.mm_logic.specs.Tree as shapes
 use Rattle.mm_matrix.specs.Columns.{column}
 use Rattle.mm_matrix.specs.MatrixValue.{MatrixValue}
 use Rattle.mm_present.specs.Comparing.{first_outside, present_rows}
-use Rattle.mm_present.specs.Dependencies.{ArePairs, Finds, after_zeros, is_zero_before, least_place, tails}
-use Rattle.mm_present.specs.Joining.{internal_rows}
+use Rattle.mm_present.specs.Dependencies.{ArePairs, Finds, after_zeros, least_place, tails}
 use Rattle.mm_present.proofs.AccountLemmas.{All-right, pairs_are, root_account}
 use Rattle.mm_present.proofs.FaultLemmas.{all_rows_are, columns_are_vectors, first_is_least}
 use Rattle.mm_present.proofs.LeastLemmas.{least_place-append}

@@ -1,12 +1,12 @@
 -- Rows in echelon form whose first digits are zero, without these digits.
-use Rattle.std.proofs.Common.{ℕ, zero, suc, ◌+◌, ◌<◌, ◌≤◌, ◌≡◌, inl, inr, Bool, true, false, not, cond, Option, List, [], ◌∷◌, ◌++◌, length, map, filter, take, drop, get_or, refl, sym, ap, ap₂, subst, ◌∙◌, arith, take-append-drop, length-drop}
+use Rattle.std.proofs.Common.{ℕ, suc, ◌+◌, ◌<◌, ◌≤◌, ◌≡◌, inl, inr, Bool, true, false, not, cond, Option, List, [], ◌∷◌, ◌++◌, length, map, filter, take, drop, get_or, refl, sym, ap, subst, ◌∙◌, arith, take-append-drop}
 use Rattle.std.specs.Prelude.{◌==◌}
 use Rattle.std.specs.List.{All, list_all}
 use Rattle.std.proofs.lemmas.Bool.{cases_lt, false_from_ne_true}
 use Rattle.std.proofs.lemmas.List.{length-map, length-replicate, get_or-replicate, get_or-take, length-take-le, drop_at, map-append, take_more}
 use Rattle.std.proofs.lemmas.List.Elements.{All-nil, All-cons, All-weaker, All-filter}
 use Rattle.mm_field.specs.declared.Field.{Field}
-use Rattle.mm_field.specs.Vectors.{zeros, vector_sum, combination, IsVector, AreVectors, InSpan, IsWithin}
+use Rattle.mm_field.specs.Vectors.{zeros, IsVector, AreVectors, InSpan}
 use Rattle.mm_field.proofs.CombinationLemmas.{first_row, other_rows, InSpan-first, InSpan-one_more, drop-vector_sum, drop-multiple}
 use Rattle.mm_field.proofs.PartLemmas.{combination-map, AreVectors-map, IsVector-drop, zeros-append}
 use Rattle.mm_linear.specs.ReducedEchelon.{Leads}

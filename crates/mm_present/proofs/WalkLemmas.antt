@@ -1,13 +1,11 @@
 -- The walk over a tree: what each node's pairs account for.
-use Rattle.std.proofs.Common.{ℕ, ◌+◌, ◌<◌, ◌≤◌, ◌≡◌, not, Ok, Err, Option, Some, None, List, [], ◌∷◌, ◌++◌, length, map, take, drop, get_or, refl, sym, ap, ap₂, subst, ◌∙◌, arith, take-add}
+use Rattle.std.proofs.Common.{ℕ, ◌+◌, ◌<◌, ◌≤◌, ◌≡◌, not, Ok, Err, Option, List, [], ◌∷◌, ◌++◌, length, map, take, drop, get_or, refl, sym, ap, ap₂, subst, ◌∙◌, arith, take-add}
 use Rattle.std.specs.Prelude.{IfOk, OnOk}
-use Rattle.std.specs.List.{All}
 use Rattle.std.specs.declared.result.Result.{Result}
 use Rattle.std.proofs.lemmas.List.{drop_more, length-take-le, length-drop, drop-drop}
 use Rattle.std.proofs.lemmas.List.Elements.{All-nil, All-cons, All-append, All-filter, All-take, All-drop}
-use Rattle.mm_base.specs.declared.failure.NoMemory.{NoMemory}
 use Rattle.mm_field.specs.declared.Field.{Field}
-use Rattle.mm_field.specs.Vectors.{zeros, IsVector, AreVectors, AreDigits}
+use Rattle.mm_field.specs.Vectors.{IsVector, AreVectors, AreDigits}
 use Rattle.mm_field.proofs.PartLemmas.{AreVectors-map, IsVector-append}
 use Rattle.mm_linear.specs.ReducedEchelon.{reduced_basis}
 use Rattle.mm_linear.proofs.ReducedEchelonLemmas.{reduced_basis_is}
@@ -17,7 +15,7 @@ use Rattle.mm_logic.specs.Tree.Tree.{Elem, Void, Join}
 use Rattle.mm_logic_laws.specs.MatrixLaws.{digits_at_join}
 use Rattle.mm_matrix.specs.MatrixValue.{MatrixValue, reduced}
 use Rattle.mm_ops.specs.OpValue.{OpValue}
-use Rattle.mm_present.specs.Dependencies.{ArePairs, Finds, Walks, Account, candidate, is_zero_before, joined_pairs, least_place, tails, with_boundary}
+use Rattle.mm_present.specs.Dependencies.{ArePairs, Finds, candidate, is_zero_before, joined_pairs, least_place, tails, with_boundary}
 use Rattle.mm_present.specs.JoinCache.{AreDigitsOf}
 use Rattle.mm_present.specs.declared.join_cache.JoinDigits.{JoinDigits}
 use Rattle.mm_present.proofs.AccountLemmas.{split_account, join_account}
@@ -109,8 +107,8 @@ element_walk f T vec column columns m next before after eT hv ec hc l em el =
     subst (λ (S : Tree). ArePairs f (boundary S) g m × Finds f g S (take (size S) (drop next columns.rows)) m.rows before after) (sym eT) (
       subst (ArePairs f t g) (sym m_is) (record { field = refl; width = refl; each = each }),
       subst (λ cs. Finds f g (Elem vec) cs m.rows before after) (sym given)
-      (subst (λ (k : MatrixValue). Finds f g (Elem vec) (column ∷ []) k.rows before after) (sym m_is)
-      (record { faults = tails t (row ∷ []); account = a; least = el })),
+          (subst (λ (k : MatrixValue). Finds f g (Elem vec) (column ∷ []) k.rows before after) (sym m_is)
+          (record { faults = tails t (row ∷ []); account = a; least = el })),
     )
 
 pub void_walk : (f : Field) (T : Tree) (t : ℕ) (columns m : MatrixValue) (next : ℕ) (least : Option ℕ) → T ≡ Void t → m ≡ matrix f (t + columns.cols) [] →
@@ -180,8 +178,8 @@ join_walk f op T L R columns left right m next middle before between after last 
         each = All-filter (λ r. not (is_zero_before o.t3 r)) (IsVector f (o.t3 + g)) rows hrows;
       }),
       subst (λ cs. Finds f g (Join o L R) cs m.rows before last) (sym given)
-      (subst (λ (k : MatrixValue). Finds f g (Join o L R) (gl ++ gr) k.rows before last) (sym m_is)
-      (record { faults = (fl.faults ++ fr.faults) ++ tails o.t3 rows; account = split; least = last_is })),
+          (subst (λ (k : MatrixValue). Finds f g (Join o L R) (gl ++ gr) k.rows before last) (sym m_is)
+          (record { faults = (fl.faults ++ fr.faults) ++ tails o.t3 rows; account = split; least = last_is })),
     )
 
 -- the pairs of a child, as its join takes them

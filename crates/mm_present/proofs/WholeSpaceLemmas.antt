@@ -24,7 +24,7 @@ use Rattle.std.proofs.lemmas.List.{length-replicate, replicate-append-replicate}
 use Rattle.mm_logic.specs.AtomValues.{is_alive}
 use Rattle.mm_logic.specs.BoundarySpaces.{ind_type}
 use Rattle.mm_logic.specs.PresentMatrix.{is_independent_set}
-use Rattle.mm_logic.specs.Tree.{Tree, size, boundary, IsValid}
+use Rattle.mm_logic.specs.Tree.{Tree, size, IsValid}
 use Rattle.mm_logic.specs.Tree.Tree.{Elem, Void, Join}
 use Rattle.mm_logic_laws.proofs.MatrixLemmas.{alive, ind_at_elem, ind_at_join, ind_at_void}
 use Rattle.mm_present.specs.WholeSpaces.{IsWholeSpace, value_of_space}

@@ -1,5 +1,5 @@
 -- Dependencies of the columns of a tree's matrix, and what they make of given columns over the same elements.
-use Rattle.std.specs.Prelude.{ℕ, ◌+◌, ◌≡◌, ◌==◌, ◌&&◌, Bool, true, not, cond, Option, Some, None, nat_lt, List, [], ◌∷◌, ◌++◌, map, filter, take, drop, All, IfOk, OnOk}
+use Rattle.std.specs.Prelude.{ℕ, ◌+◌, ◌≡◌, ◌==◌, Bool, not, cond, Option, Some, None, nat_lt, List, [], ◌∷◌, ◌++◌, map, filter, take, drop, All, IfOk, OnOk}
 use Rattle.std.specs.List.{list_all, position}
 use Rattle.mm_field.specs.declared.Field.{Field}
 use Rattle.mm_field.specs.Vectors.{zeros, combination, times_matrix, IsVector, AreVectors, InSpan}

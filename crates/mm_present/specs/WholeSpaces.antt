@@ -1,5 +1,5 @@
 -- The boundary space of all elements of a tree.
-use Rattle.std.specs.Prelude.{ℕ, ◌≡◌, Option, Some, None, IfSome, replicate, true}
+use Rattle.std.specs.Prelude.{◌≡◌, Option, Some, None, IfSome, replicate, true}
 use Rattle.mm_field.specs.declared.Field.{Field}
 use Rattle.mm_logic.specs.BoundarySpaces.{ind_type}
 use Rattle.mm_logic.specs.Tree.{Tree, size, boundary}

@@ -56,19 +56,19 @@ fn lesser(first: Option<usize>, second: Option<usize>) -> Option<usize>
         None => second,
         Some(i) => match second {
             None => Some(i),
-            Some(j) => {
-                if j < i {
-                    Some(j)
-                } else {
-                    Some(i)
-                }
-            }
+            Some(j) => { if j < i { Some(j) } else { Some(i) } }
         },
     }
 }
 
 /// Puts a row after the pairs, unless its t boundary digits are zero: then `least` is made the least place of it and earlier faults.
-fn put_pair(alloc: Global, t: usize, row: &[u8], pairs: &mut Matrix, least: &mut Option<usize>) -> Result<(), NoMemory>
+fn put_pair(
+    alloc: Global,
+    t: usize,
+    row: &[u8],
+    pairs: &mut Matrix,
+    least: &mut Option<usize>,
+) -> Result<(), NoMemory>
     requires vector { IsVector pairs.old.f pairs.old.cols row.now }
     requires boundary { t ≤ pairs.old.cols }
     ensures pairs { OnOk result (pairs.new ≡ record pairs.old { rows = pairs.old.rows ++ with_boundary t (row.now ∷ []) }) }
@@ -123,7 +123,12 @@ fn pairs_of_tails(
 }
 
 /// The digits of a row from place t3 on, the first t3, and more digits.
-fn with_boundary_last(alloc: Global, t3: usize, row: &[u8], more: &[u8]) -> Result<Vec<u8>, NoMemory>
+fn with_boundary_last(
+    alloc: Global,
+    t3: usize,
+    row: &[u8],
+    more: &[u8],
+) -> Result<Vec<u8>, NoMemory>
     requires { t3 ≤ length row.now }
     ensures { IfOk result (λ v. v.items ≡ drop t3 row.now ++ (take t3 row.now ++ more.now)) }
 {
@@ -168,7 +173,8 @@ fn put_candidates(
     requires width { t + candidates.old.cols ≡ digits.now.cols + pairs.now.cols }
     requires room { t ≤ pairs.now.cols }
     ensures { OnOk result (candidates.new ≡ record candidates.old {
-      rows = candidates.old.rows ++ map (candidate digits.now.f digits.now.cols t t3 digits.now.rows) pairs.now.rows }) }
+      rows = candidates.old.rows ++ map (candidate digits.now.f digits.now.cols t t3 digits.now.rows) pairs.now.rows;
+    }) }
 {
     let _ = digits.rows();
     for i in 0..pairs.rows() {
@@ -202,8 +208,22 @@ fn join_pairs(
     let cols = width(t3, given)?;
     let digits = known.digits(alloc, op)?;
     let mut candidates = Matrix::new(alloc, op.field(), width(c, cols)?);
-    put_candidates(alloc, &digits.first, op.t1() as usize, t3, &left, &mut candidates)?;
-    put_candidates(alloc, &digits.second, op.t2() as usize, t3, &right, &mut candidates)?;
+    put_candidates(
+        alloc,
+        &digits.first,
+        op.t1() as usize,
+        t3,
+        &left,
+        &mut candidates,
+    )?;
+    put_candidates(
+        alloc,
+        &digits.second,
+        op.t2() as usize,
+        t3,
+        &right,
+        &mut candidates,
+    )?;
     let space = Echelon::of(alloc, &candidates)?.into_matrix();
     pairs_of_tails(alloc, &space, c, t3, cols, least)
 }
@@ -316,7 +336,11 @@ fn note_last_faults(
 }
 
 /// The least given row, counted from 0, that is outside the row space of the tree's matrix; None where all are inside.
-pub(crate) fn first_given_outside(alloc: Global, given: &Matrix, tree: &Tree) -> Result<Option<usize>, NoMemory>
+pub(crate) fn first_given_outside(
+    alloc: Global,
+    given: &Matrix,
+    tree: &Tree,
+) -> Result<Option<usize>, NoMemory>
     requires field { given.now.f ≡ tree.now.f }
     requires columns { given.now.cols ≡ shapes.size (shape tree.now.tree) }
     ensures first { IfOk result (λ found. found ≡ first_outside given.now.f given.now.cols given.now.rows (present_rows tree.now.f tree.now.tree)) }

@@ -160,7 +160,11 @@ fn images_of(
 }
 
 /// Whether all rows of the tree's matrix make zero of each vector that is orthogonal to the given rows: then they are in their space.
-pub(crate) fn are_present_inside(alloc: Global, given: &Matrix, tree: &Tree) -> Result<bool, NoMemory>
+pub(crate) fn are_present_inside(
+    alloc: Global,
+    given: &Matrix,
+    tree: &Tree,
+) -> Result<bool, NoMemory>
     requires field { given.now.f ≡ tree.now.f }
     requires columns { given.now.cols ≡ shapes.size (shape tree.now.tree) }
     ensures { IfOk result (λ b. b ≡ true → None ≡ first_outside given.now.f given.now.cols (present_rows tree.now.f tree.now.tree) given.now.rows) }

@@ -1,4 +1,4 @@
-use Rattle.std.proofs.Common.{◌≡◌, ◌<◌, ◌≤◌, ◌+◌, length, take, drop, sym, ap, ap₂, subst, ◌∙◌, arith}
+use Rattle.std.proofs.Common.{◌≡◌, ◌<◌, ◌≤◌, ◌+◌, length, take, drop, sym, ap, subst, ◌∙◌, arith}
 use Rattle.mm_field.specs.Vectors.{AreVectors}
 use Rattle.mm_logic.specs.Tree as shapes
 use Rattle.mm_matrix.specs.MatrixValue.{MatrixValue}
@@ -6,7 +6,7 @@ use Rattle.mm_present.specs.Dependencies.{ArePairs, Finds, Walks, joined_pairs, 
 use Rattle.mm_present.proofs.NodeLemmas.{always_ok, at_join, node_of_leaf, nodes_at_join}
 use Rattle.mm_present.proofs.WalkLemmas.{ok_both, child_pairs, join_walk}
 use Rattle.mm_tree.specs.NamedTree.{shape, nodes}
-use Rattle.mm_tree.specs.Nodes.{named, named_leaf, IsOver}
+use Rattle.mm_tree.specs.Nodes.{named, IsOver}
 use Rattle.mm_present.proofs.dependencies.+pairs_of.Goals as goal
 
 pub leaf_pairs-requires-clause-valid : goal.leaf_pairs-requires-clause-valid
@@ -112,12 +112,12 @@ returns-in_ok-second-in-Join t c =
     let ecols = c.cols.ensures in (
       always_ok (c.pairs_of-in-Join.new.next ≡ next + shapes.size T) c.join_pairs.result (omega arith),
       ok_both
-      {P = λ (m : MatrixValue). m ≡ record { f = op.f; cols = op.op.t3 + c.cols.result; rows = with_boundary op.op.t3 (joined_pairs op c.cols.result first.rows second.rows) }}
-      {R = λ (m : MatrixValue). ArePairs f (shapes.boundary T) columns.cols m × Finds f columns.cols T (take (shapes.size T) (drop next columns.rows)) m.rows before last}
-      {Q = last ≡ least_place after (tails op.op.t3 (joined_pairs op c.cols.result first.rows second.rows))}
-      c.join_pairs.result c.join_pairs.ensures.pairs c.join_pairs.ensures.least
-      (λ m em el. join_walk f op T L R columns first second m next middle before between after last j.field j.shape_is j.valid hc (omega arith) middle_is
-      left.0 right.0 left.1 right.1
-      (em ∙ ap (λ g. record { f = op.f; cols = op.op.t3 + g; rows = with_boundary op.op.t3 (joined_pairs op g first.rows second.rows) }) ecols)
-      (el ∙ ap (λ g. least_place after (tails op.op.t3 (joined_pairs op g first.rows second.rows))) ecols)),
+          {P = λ (m : MatrixValue). m ≡ record { f = op.f; cols = op.op.t3 + c.cols.result; rows = with_boundary op.op.t3 (joined_pairs op c.cols.result first.rows second.rows) }}
+          {R = λ (m : MatrixValue). ArePairs f (shapes.boundary T) columns.cols m × Finds f columns.cols T (take (shapes.size T) (drop next columns.rows)) m.rows before last}
+          {Q = last ≡ least_place after (tails op.op.t3 (joined_pairs op c.cols.result first.rows second.rows))}
+          c.join_pairs.result c.join_pairs.ensures.pairs c.join_pairs.ensures.least
+          (λ m em el. join_walk f op T L R columns first second m next middle before between after last j.field j.shape_is j.valid hc (omega arith) middle_is
+          left.0 right.0 left.1 right.1
+          (em ∙ ap (λ g. record { f = op.f; cols = op.op.t3 + g; rows = with_boundary op.op.t3 (joined_pairs op g first.rows second.rows) }) ecols)
+          (el ∙ ap (λ g. least_place after (tails op.op.t3 (joined_pairs op g first.rows second.rows))) ecols)),
     )

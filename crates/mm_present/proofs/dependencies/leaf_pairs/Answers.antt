@@ -1,4 +1,4 @@
-use Rattle.std.proofs.Common.{◌≡◌, ◌<◌, ◌+◌, ◌^◌, ◌++◌, [], ◌∷◌, length, take, drop, sym, ap, subst, ◌∙◌, arith}
+use Rattle.std.proofs.Common.{◌≡◌, ◌<◌, ◌+◌, ◌^◌, ◌++◌, [], ◌∷◌, length, take, drop, ap, subst, ◌∙◌, arith}
 use Rattle.mm_field.specs.Vectors.{AreDigits, IsVector}
 use Rattle.mm_logic.specs.Tree as shapes
 use Rattle.mm_matrix.specs.MatrixValue.{MatrixValue}
@@ -43,11 +43,11 @@ returns-in-Some c =
     let digits : AreDigits f vec = (subst (λ (S : shapes.Tree). shapes.IsValid f S) eT c.requires.valid).0 in (
       always_ok (next + 1 ≡ next + shapes.size T) c.element_pairs.result (omega arith),
       ok_both {P = λ (m : MatrixValue). m ≡ record { f = f; cols = length vec + length column; rows = with_boundary (length vec) ((vec ++ column) ∷ []) }}
-      {R = λ (m : MatrixValue). ArePairs f (shapes.boundary T) columns.cols m × Finds f columns.cols T (take (shapes.size T) (drop next columns.rows)) m.rows before after}
-      {Q = after ≡ least_place before (tails (length vec) ((vec ++ column) ∷ []))}
-      c.element_pairs.result c.element_pairs.ensures.pairs c.element_pairs.ensures.least
-      (λ m em el. element_walk f T vec column columns m next before after eT digits c.row-column.ensures.value
-      (subst (λ h. IsVector h columns.cols column) c.requires.field c.row-column.ensures.vector) l em el),
+          {R = λ (m : MatrixValue). ArePairs f (shapes.boundary T) columns.cols m × Finds f columns.cols T (take (shapes.size T) (drop next columns.rows)) m.rows before after}
+          {Q = after ≡ least_place before (tails (length vec) ((vec ++ column) ∷ []))}
+          c.element_pairs.result c.element_pairs.ensures.pairs c.element_pairs.ensures.least
+          (λ m em el. element_walk f T vec column columns m next before after eT digits c.row-column.ensures.value
+          (subst (λ h. IsVector h columns.cols column) c.requires.field c.row-column.ensures.vector) l em el),
     )
 
 pub returns-in_ok-cols-in-None : goal.returns-in_ok-cols-in-None
@@ -59,5 +59,5 @@ returns-in_ok-cols-in-None c =
     let columns = c.args.columns.now in (
       omega arith,
       void_walk f T c.args.leaf.now.t columns c.new.result c.args.next.now c.args.least.now eT
-      (c.new.ensures ∙ ap (λ n. record { f = f; cols = n; rows = [] }) (c.in_ok-cols-in-None.ensures ∙ ap (λ n. c.args.leaf.now.t + n) c.cols.ensures)),
+          (c.new.ensures ∙ ap (λ n. record { f = f; cols = n; rows = [] }) (c.in_ok-cols-in-None.ensures ∙ ap (λ n. c.args.leaf.now.t + n) c.cols.ensures)),
     )

@@ -1,5 +1,5 @@
-use Rattle.std.proofs.Common.{◌≡◌, ◌<◌, ◌+◌, [], ◌∷◌, ◌++◌, length, ap, sym, subst, ◌∙◌, arith}
-use Rattle.mm_field.specs.Vectors.{IsVector, AreVectors}
+use Rattle.std.proofs.Common.{◌<◌, ◌+◌, [], ◌∷◌, ◌++◌, length, ap, sym, subst, ◌∙◌, arith}
+use Rattle.mm_field.specs.Vectors.{IsVector}
 use Rattle.mm_matrix.specs.MatrixValue.{MatrixValue}
 use Rattle.mm_present.specs.Dependencies.{with_boundary, tails, least_place}
 use Rattle.mm_present.proofs.TailLemmas.{next_pairs, next_least}

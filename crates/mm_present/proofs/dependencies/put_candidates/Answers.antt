@@ -1,7 +1,6 @@
 use Rattle.std.proofs.Common.{◌≡◌, ap, sym, subst, ◌∙◌, arith}
-use Rattle.mm_field.specs.Vectors.{IsVector, AreVectors}
+use Rattle.mm_field.specs.Vectors.{IsVector}
 use Rattle.mm_matrix.specs.MatrixValue.{MatrixValue}
-use Rattle.mm_present.specs.Dependencies.{candidate}
 use Rattle.mm_present.proofs.PairLemmas.{candidate_fits}
 use Rattle.mm_present.proofs.dependencies.put_candidates.Goals as goal
 

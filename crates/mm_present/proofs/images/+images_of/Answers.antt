@@ -1,4 +1,4 @@
-use Rattle.std.proofs.Common.{◌&&◌, ◌≡◌, ◌<◌, ◌≤◌, ◌+◌, length, take, drop, sym, ap, ap₂, subst, ◌∙◌, arith}
+use Rattle.std.proofs.Common.{◌&&◌, ◌≡◌, ◌<◌, ◌≤◌, ◌+◌, length, take, drop, sym, ap, subst, ◌∙◌, arith}
 use Rattle.mm_field.specs.Vectors.{AreVectors}
 use Rattle.mm_logic.specs.Tree as shapes
 use Rattle.mm_matrix.specs.MatrixValue.{MatrixValue}
@@ -112,9 +112,9 @@ returns-in-Leaf t c =
     subst (λ x. ImagesOf f (shape x) columns next c.leaf_images.new.next zero zero r) (sym (node_of_leaf c.args.node.now leaf c.in-Leaf.is)) (
       c.leaf_images.ensures.next,
       IfOk-weaker r (λ (m : MatrixValue). m ≡ record { f = f; cols = columns.cols; rows = images f columns.cols cs (boundary_rows f T) })
-      (λ (m : MatrixValue). (m ≡ record { f = f; cols = columns.cols; rows = images f columns.cols cs (boundary_rows f T) })
-      × (zero ≡ (zero && are_zero (images f columns.cols cs (internal_rows f T)))))
-      (λ m e. (e, no_internal f T columns.cols cs zero (leaf_internal leaf))) c.leaf_images.ensures.images,
+          (λ (m : MatrixValue). (m ≡ record { f = f; cols = columns.cols; rows = images f columns.cols cs (boundary_rows f T) })
+          × (zero ≡ (zero && are_zero (images f columns.cols cs (internal_rows f T)))))
+          (λ m e. (e, no_internal f T columns.cols cs zero (leaf_internal leaf))) c.leaf_images.ensures.images,
     )
 
 pub returns-in_ok-second-in-Join : goal.returns-in_ok-second-in-Join
@@ -150,11 +150,11 @@ returns-in_ok-second-in-Join t c =
     let made = joined_images op first.cols first.rows second.rows in (
       always_ok (c.images_of-in-Join.new.next ≡ next + shapes.size T) c.boundary_images.result (omega arith),
       ok_both
-      {P = λ (m : MatrixValue). m ≡ record { f = op.f; cols = first.cols; rows = take op.op.t3 made }}
-      {R = λ (m : MatrixValue). (m ≡ record { f = f; cols = d; rows = images f d (take (shapes.size T) (drop next columns.rows)) (boundary_rows f T) })
-      × (last ≡ (before && are_zero (images f d (take (shapes.size T) (drop next columns.rows)) (internal_rows f T))))}
-      {Q = last ≡ (after && are_zero (drop op.op.t3 made))}
-      c.boundary_images.result c.boundary_images.ensures.images c.boundary_images.ensures.zero
-      (λ m em el. join_images f op T L R columns first second m next middle before between after last j.field j.shape_is j.valid hc (omega arith) middle_is
-      left.0 right.0 left.1 right.1 em el),
+          {P = λ (m : MatrixValue). m ≡ record { f = op.f; cols = first.cols; rows = take op.op.t3 made }}
+          {R = λ (m : MatrixValue). (m ≡ record { f = f; cols = d; rows = images f d (take (shapes.size T) (drop next columns.rows)) (boundary_rows f T) })
+          × (last ≡ (before && are_zero (images f d (take (shapes.size T) (drop next columns.rows)) (internal_rows f T))))}
+          {Q = last ≡ (after && are_zero (drop op.op.t3 made))}
+          c.boundary_images.result c.boundary_images.ensures.images c.boundary_images.ensures.zero
+          (λ m em el. join_images f op T L R columns first second m next middle before between after last j.field j.shape_is j.valid hc (omega arith) middle_is
+          left.0 right.0 left.1 right.1 em el),
     )

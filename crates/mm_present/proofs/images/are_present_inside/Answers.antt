@@ -1,5 +1,4 @@
-use Rattle.std.proofs.Common.{◌≡◌, ◌+◌, ◌&&◌, true, false, None, length, map, take, drop, sym, ap, ap₂, subst, ◌∙◌, arith}
-use Rattle.std.specs.List.{range_with_len}
+use Rattle.std.proofs.Common.{◌≡◌, ◌&&◌, true, false, length, take, drop, sym, ap, ap₂, subst, ◌∙◌, arith}
 use Rattle.std.proofs.lemmas.List.FromFn.{length-map-range_with_len}
 use Rattle.mm_field.specs.Vectors.{AreVectors}
 use Rattle.mm_linear.specs.ReducedEchelon.{reduced_basis}
@@ -7,7 +6,6 @@ use Rattle.mm_logic.specs.PresentMatrix.{boundary_rows}
 use Rattle.mm_logic.specs.Tree as shapes
 use Rattle.mm_matrix.specs.Columns.{column}
 use Rattle.mm_matrix.specs.MatrixValue.{MatrixValue}
-use Rattle.mm_matrix.specs.Orthogonal.{IsNullOf}
 use Rattle.mm_present.specs.Comparing.{first_outside, present_rows}
 use Rattle.mm_present.specs.Images.{are_zero, images}
 use Rattle.mm_present.specs.Joining.{internal_rows}

@@ -1,4 +1,4 @@
-use Rattle.std.proofs.Common.{◌≡◌, ◌≤◌, drop, length}
+use Rattle.std.proofs.Common.{◌≡◌, drop}
 use Rattle.mm_present.specs.Images.{are_zero}
 use Rattle.mm_present.proofs.images.are_zero_from.Given as goal
 

@@ -1,10 +1,10 @@
-use Rattle.std.proofs.Common.{◌≡◌, ◌<◌, ◌+◌, Some, None, sym, ap, subst, ◌∙◌, arith}
+use Rattle.std.proofs.Common.{◌<◌, Some, None, sym, subst, ◌∙◌, arith}
 use Rattle.mm_logic.specs.Tree as shapes
 use Rattle.mm_present.specs.WholeSpaces.{IsWholeSpace}
 use Rattle.mm_present.proofs.NodeLemmas.{at_join, node_of_leaf, nodes_at_join}
 use Rattle.mm_present.proofs.WholeSpaceLemmas.{left_dead, right_dead, join_space}
 use Rattle.mm_tree.specs.NamedTree.{shape, nodes}
-use Rattle.mm_tree.specs.Nodes.{named, named_leaf, IsOver}
+use Rattle.mm_tree.specs.Nodes.{named, IsOver}
 use Rattle.mm_present.proofs.independence.+space_of.Goals as goal
 
 pub space_of_leaf-requires : goal.space_of_leaf-requires

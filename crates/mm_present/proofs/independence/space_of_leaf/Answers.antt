@@ -1,4 +1,4 @@
-use Rattle.std.proofs.Common.{◌≡◌, ◌∙◌, sym, subst}
+use Rattle.std.proofs.Common.{◌∙◌, sym, subst}
 use Rattle.mm_logic.specs.Tree as shapes
 use Rattle.mm_present.proofs.NodeLemmas.{shape_of_element, shape_of_void}
 use Rattle.mm_present.proofs.WholeSpaceLemmas.{element_dead, element_space, void_space}
