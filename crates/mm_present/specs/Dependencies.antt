@@ -1,5 +1,6 @@
 -- Dependencies of the columns of a tree's matrix, and what they make of given columns over the same elements.
-use Rattle.std.specs.Prelude.{ℕ, ◌+◌, ◌≡◌, ◌==◌, Bool, not, cond, Option, Some, None, nat_lt, List, [], ◌∷◌, ◌++◌, map, filter, take, drop, All, IfOk, OnOk}
+use Rattle.std.specs.Prelude.{ℕ, ◌+◌, ◌≡◌, ◌==◌, Bool, not, cond, Option, Some, None, nat_lt, All, IfOk, OnOk}
+use Rattle.std.specs.Prelude.{List, [], ◌∷◌, ◌++◌, map, filter, take, drop}
 use Rattle.std.specs.List.{list_all, position}
 use Rattle.mm_field.specs.declared.Field.{Field}
 use Rattle.mm_field.specs.Vectors.{zeros, combination, times_matrix, IsVector, AreVectors, InSpan}
@@ -95,7 +96,8 @@ pub record ArePairs (f : Field) (t given : ℕ) (m : MatrixValue) : Type 0 where
   pub each : AreVectors f m.cols m.rows
 
 -- The outcome of a walk over a tree whose elements have the given columns from place `next` on.
-abbrev pub Walks : Field → Tree → (columns : MatrixValue) → (next after : ℕ) → (before least : Option ℕ) → Result MatrixValue NoMemory → Type 0
+abbrev pub Walks :
+    Field → Tree → (columns : MatrixValue) → (next after : ℕ) → (before least : Option ℕ) → Result MatrixValue NoMemory → Type 0
 Walks f T columns next after before least result =
     OnOk result (after ≡ next + size T)
     × IfOk result (λ pairs. ArePairs f (boundary T) columns.cols pairs

@@ -29,7 +29,8 @@ joined_images op d left right =
     (map (column (digits_at_join op.f op.op op.op.g1 ++ digits_at_join op.f op.op op.op.g2)) (range_with_len 0 (row_length op.op)))
 
 -- The outcome of a walk over a tree whose elements have the given columns from place `next` on.
-abbrev pub ImagesOf : Field → Tree → (columns : MatrixValue) → (next after : ℕ) → (before zero : Bool) → Result MatrixValue NoMemory → Type 0
+abbrev pub ImagesOf :
+    Field → Tree → (columns : MatrixValue) → (next after : ℕ) → (before zero : Bool) → Result MatrixValue NoMemory → Type 0
 ImagesOf f T columns next after before zero result =
     OnOk result (after ≡ next + size T)
     × IfOk result (λ m. (m ≡ record {

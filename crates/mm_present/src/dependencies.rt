@@ -1,19 +1,18 @@
 //! What the dependencies of a tree's columns make of given columns over the same elements, from the leaves up.
 //!
 //! A pair is the boundary digits of a combination of columns whose internal digits are zero, with the same combination of the given
-//! columns. A node hands on a few pairs that span all of its pairs. One with zero boundary digits is a fault: no row with another
-//! product than zero is in the row space of the tree's matrix.
+//! columns. A node hands on a few pairs that span all of its pairs. One with zero boundary digits is a fault: a given row with another
+//! digit than 0 there is outside the row space of the tree's matrix.
 
-ghost use Rattle.std.specs.Prelude.{◌≡◌, ◌==◌, ◌≤◌, ◌<◌, ◌+◌, ◌-◌, ◌^◌, ◌++◌, [], ◌∷◌, length, map, take, drop, IfOk, IfSome, OnOk};
+ghost use Rattle.std.specs.Prelude.{◌≡◌, ◌==◌, ◌≤◌, ◌<◌, ◌+◌, ◌^◌, ◌++◌, [], ◌∷◌, length, map, take, drop, IfOk, IfSome, OnOk};
 ghost use Rattle.std.specs.List.{list_all, range_with_len};
 ghost use Rattle.mm_field.specs.Vectors.{IsVector, AreDigits};
-ghost use Rattle.mm_logic.specs.Operator.{row_length};
 ghost use Rattle.mm_logic.specs.Tree as shapes;
 ghost use Rattle.mm_linear.specs.ReducedEchelon.{reduced_basis};
 ghost use Rattle.mm_matrix.specs.Columns.{column};
-ghost use Rattle.mm_matrix.specs.MatrixValue.{MatrixValue};
 ghost use Rattle.mm_present.specs.Comparing.{first_outside, present_rows};
-ghost use Rattle.mm_present.specs.Dependencies.{ArePairs, Walks, candidate, first_nonzero, joined_pairs, least_place, lesser, tails, with_boundary};
+ghost use Rattle.mm_present.specs.Dependencies.{ArePairs, Walks, candidate, first_nonzero, joined_pairs};
+ghost use Rattle.mm_present.specs.Dependencies.{least_place, lesser, tails, with_boundary};
 ghost use Rattle.mm_tree.specs.NamedTree.{shape};
 ghost use Rattle.mm_tree.specs.Nodes.{named, named_leaf, IsOver};
 
@@ -310,7 +309,11 @@ pub(crate) fn pairs_of(
 
 /// The columns of a matrix, each as a row.
 pub(crate) fn columns_of(alloc: Global, m: &Matrix) -> Result<Matrix, NoMemory>
-    ensures { IfOk result (λ c. c ≡ record { f = m.now.f; cols = length m.now.rows; rows = map (column m.now.rows) (range_with_len 0 m.now.cols) }) }
+    ensures { IfOk result (λ c. c ≡ record {
+      f = m.now.f;
+      cols = length m.now.rows;
+      rows = map (column m.now.rows) (range_with_len 0 m.now.cols);
+    }) }
 {
     let mut places = Vec::new(alloc);
     for j in 0..m.cols() {
@@ -343,7 +346,8 @@ pub(crate) fn first_given_outside(
 ) -> Result<Option<usize>, NoMemory>
     requires field { given.now.f ≡ tree.now.f }
     requires columns { given.now.cols ≡ shapes.size (shape tree.now.tree) }
-    ensures first { IfOk result (λ found. found ≡ first_outside given.now.f given.now.cols given.now.rows (present_rows tree.now.f tree.now.tree)) }
+    ensures first { IfOk result (λ found. found ≡
+        first_outside given.now.f given.now.cols given.now.rows (present_rows tree.now.f tree.now.tree)) }
     ensures small { IfOk result (λ found. IfSome found (λ i. i + 1 < 2 ^ 64)) }
 {
     let _ = given.rows();

@@ -64,7 +64,11 @@ fn images_at_join(
     requires cols { right.now.cols ≡ left.cols }
     requires left { length left.rows ≡ op.now.op.t1 }
     requires right { length right.now.rows ≡ op.now.op.t2 }
-    ensures { IfOk result (λ m. m ≡ record { f = op.now.f; cols = left.cols; rows = joined_images op.now left.cols left.rows right.now.rows }) }
+    ensures { IfOk result (λ m. m ≡ record {
+      f = op.now.f;
+      cols = left.cols;
+      rows = joined_images op.now left.cols left.rows right.now.rows;
+    }) }
 {
     let digits = known.digits(alloc, op)?;
     let space = op.t3() as usize + op.c() as usize;
@@ -95,7 +99,8 @@ fn boundary_images(
       cols = left.cols;
       rows = take op.now.op.t3 (joined_images op.now left.cols left.rows right.now.rows);
     }) }
-    ensures zero { OnOk result (zero.new ≡ (zero.old && are_zero (drop op.now.op.t3 (joined_images op.now left.cols left.rows right.now.rows)))) }
+    ensures zero { OnOk result (zero.new ≡ (zero.old
+        && are_zero (drop op.now.op.t3 (joined_images op.now left.cols left.rows right.now.rows)))) }
 {
     let _ = op.field();
     let images = images_at_join(alloc, op, known, left, right)?;
@@ -167,7 +172,8 @@ pub(crate) fn are_present_inside(
 ) -> Result<bool, NoMemory>
     requires field { given.now.f ≡ tree.now.f }
     requires columns { given.now.cols ≡ shapes.size (shape tree.now.tree) }
-    ensures { IfOk result (λ b. b ≡ true → None ≡ first_outside given.now.f given.now.cols (present_rows tree.now.f tree.now.tree) given.now.rows) }
+    ensures { IfOk result (λ b. b ≡ true →
+        None ≡ first_outside given.now.f given.now.cols (present_rows tree.now.f tree.now.tree) given.now.rows) }
 {
     let _ = given.rows();
     let space = Echelon::of(alloc, given)?;

@@ -65,7 +65,8 @@ fn space_of(f: Field, node: &Node, rows: &mut JoinRows) -> Option<Key>
 
 /// Whether the set of all elements of the tree is independent. It takes no memory.
 pub fn is_independent(_alloc: Global, tree: &Tree) -> Result<bool, NoMemory>
-    ensures { IfOk result (λ b. b ≡ is_independent_set tree.now.f (shape tree.now.tree) (replicate (shapes.size (shape tree.now.tree)) true)) }
+    ensures { IfOk result (λ b. b ≡
+        is_independent_set tree.now.f (shape tree.now.tree) (replicate (shapes.size (shape tree.now.tree)) true)) }
 {
     let space = space_of(tree.field(), tree.node(), &mut JoinRows::new());
     Ok(space.is_some())
