@@ -91,7 +91,7 @@ all_zero f (c ∷ cs) (d ∷ ds) z =
     ∙ ap (λ a. plus f a 0) (times-zero f c) ∙ plus_zeros f
 
 -- what is orthogonal to rows is orthogonal to their combinations
-orthogonal_to_combination : (f : Field) (n : ℕ) (cs : List ℕ) (rows : List (List ℕ)) (x : List ℕ) → AreVectors f n rows →
+pub orthogonal_to_combination : (f : Field) (n : ℕ) (cs : List ℕ) (rows : List (List ℕ)) (x : List ℕ) → AreVectors f n rows →
     IsOrthogonal f rows x → dot f (combination f n cs rows) x ≡ 0
 orthogonal_to_combination f n cs rows x h orth =
     dot-comm f (combination f n cs rows) x ∙ dot-combination f n x cs rows h ∙ all_zero f cs (map (dot f x) rows)

@@ -118,7 +118,7 @@ lead_vanishes f n i rows ks h l =
 
 -- ---- the span
 
-member_in_span : (f : Field) (n : ℕ) (rows : List (List ℕ)) (v : List ℕ) → AreVectors f n rows → Contains rows v → InSpan f n rows v
+pub member_in_span : (f : Field) (n : ℕ) (rows : List (List ℕ)) (v : List ℕ) → AreVectors f n rows → Contains rows v → InSpan f n rows v
 member_in_span f n rows v h c = subst (λ (u : List ℕ). InSpan f n rows u) c.2 (IsWithin-itself f n rows h c.0 v c.1)
 
 pub is_lead : (f : Field) (n k : ℕ) (rows : List (List ℕ)) (ks : List ℕ) → AreReduced f n rows ks → k < n → (is_pivot f rows k ≡ true) ↔ Contains ks k
@@ -216,7 +216,7 @@ null_is_orthogonal f n rows ks x h p = λ m d l.
 -- ---- how many there are
 
 -- at a column that is no lead, a projection is as the unit vector
-entry_off_leads : (f : Field) (n a j : ℕ) (rows : List (List ℕ)) (ks : List ℕ) → All (λ k. k < n) ks → All (λ k. k ≢ a) ks → a < n → j < n →
+pub entry_off_leads : (f : Field) (n a j : ℕ) (rows : List (List ℕ)) (ks : List ℕ) → All (λ k. k < n) ks → All (λ k. k ≢ a) ks → a < n → j < n →
     get_or (kernel_vector f n rows ks j) a 0 ≡ get_or (unit n j) a 0
 entry_off_leads f n a j rows ks hk ne la lj =
     let cs = shares f rows (unit n j) in
@@ -242,7 +242,7 @@ entry_off_leads f n a j rows ks hk ne la lj =
         (dot-unit f n k (unit n a) ha lk ∙ get_or-unit_other a (n - suc a) k (All-head (λ k. k ≢ a) k ks ne) (omega arith))
         (off ks (All-tail (λ k. k < n) k ks hk) (All-tail (λ k. k ≢ a) k ks ne) ha)
 
-not_a_lead : (f : Field) (n a : ℕ) (rows : List (List ℕ)) (ks : List ℕ) → AreReduced f n rows ks → a < n → is_pivot f rows a ≡ false →
+pub not_a_lead : (f : Field) (n a : ℕ) (rows : List (List ℕ)) (ks : List ℕ) → AreReduced f n rows ks → a < n → is_pivot f rows a ≡ false →
     All (λ k. k ≢ a) ks
 not_a_lead f n a rows ks h l e = λ i d m q.
     both_ways (is_pivot f rows a) e ((is_lead f n a rows ks h l).1 (i, m, get_or_default ks i a d m ∙ q))
@@ -257,7 +257,7 @@ later_zero f n a rows ks (j ∷ js) hk ne la hj =
     ∙ get_or-unit_other j (n - suc j) a (λ q. absurd (let s = b.0 in omega arith)) (let s = b.1 in omega arith))
     (later_zero f n a rows ks js hk ne la (All-tail (λ j. (a < j) × (j < n)) j js hj))
 
-zero_in_span : (f : Field) (n a : ℕ) (rows : List (List ℕ)) (v : List ℕ) → AreVectors f n rows → a < n →
+pub zero_in_span : (f : Field) (n a : ℕ) (rows : List (List ℕ)) (v : List ℕ) → AreVectors f n rows → a < n →
     All (λ (u : List ℕ). get_or u a 0 ≡ 0) rows → InSpan f n rows v → get_or v a 0 ≡ 0
 zero_in_span f n a rows v h l z p =
     let hv : IsVector f n v = subst (λ u. IsVector f n u) p.sum (IsVector-combination f n p.coefficients rows h) in

@@ -10,3 +10,4 @@ mod products;
 pub use echelon::Echelon;
 pub use matrix::Matrix;
 pub use orthogonality::orthogonal;
+pub use products::combination;

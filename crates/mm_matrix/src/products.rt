@@ -22,7 +22,7 @@ fn column(alloc: Global, m: &Matrix, j: usize) -> Result<Vec<u8>, NoMemory>
 }
 
 /// The combination of the rows of a matrix with these coefficients.
-fn combination(alloc: Global, coefficients: &[u8], m: &Matrix) -> Result<Vec<u8>, NoMemory>
+pub fn combination(alloc: Global, coefficients: &[u8], m: &Matrix) -> Result<Vec<u8>, NoMemory>
     requires { IsVector m.now.f (length m.now.rows) coefficients.now }
     ensures { IfOk result (λ sum. sum.items ≡ combination m.now.f m.now.cols coefficients.now m.now.rows) }
 {

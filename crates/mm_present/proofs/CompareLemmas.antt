@@ -5,6 +5,7 @@ use Rattle.std.specs.List.{IsDistinct, list_any, position_or_len}
 use Rattle.std.specs.Str.{bytes_eq}
 use Rattle.std.proofs.lemmas.Bool.{lt-ltb, le-ltb, ltb-true, false_from_ne_true, both_ways}
 use Rattle.std.proofs.lemmas.List.{drop_more, drop_all, take_more, length-map, map_push, get_or-take, length-take-le}
+use Rattle.std.proofs.lemmas.List.Quantifiers.{position-Some}
 use Rattle.std.proofs.lemmas.List.Elements.{All-nil, All-cons}
 use Rattle.std.proofs.lemmas.List.Sums.{position_or_len_is}
 use Rattle.std.proofs.lemmas.Map.Made.{length-le_from_is_member}
@@ -130,7 +131,7 @@ next_place h xs k x y done l ex ey e =
 
 -- ---- rows outside a row space
 
-position_found : {X : Type 0} (p : X → Bool) (xs : List X) (i : ℕ) (d : X) → i < length xs → p (get_or xs i d) ≡ true →
+pub position_found : {X : Type 0} (p : X → Bool) (xs : List X) (i : ℕ) (d : X) → i < length xs → p (get_or xs i d) ≡ true →
     ((k : ℕ) → k < i → p (get_or xs k d) ≡ false) → Some i ≡ position p xs
 position_found p xs i d l t f =
     let at = position_or_len_is p xs i d (omega arith) f (λ _. t) in
@@ -142,11 +143,11 @@ position_none p xs d f =
     let past : length xs ≤ length xs = omega arith in
     sym (ap (λ n. cond (nat_lt n (length xs)) (Some n) None) at ∙ ap (λ b. cond b (Some (length xs)) None) (le-ltb (length xs) (length xs) past))
 
-inside_true : (f : Field) (n : ℕ) (others : List (List ℕ)) (row : List ℕ) → AreVectors f n others → IsVector f n row → InSpan f n others row →
+pub inside_true : (f : Field) (n : ℕ) (others : List (List ℕ)) (row : List ℕ) → AreVectors f n others → IsVector f n row → InSpan f n others row →
     not (is_in_span f n others row) ≡ false
 inside_true f n others row h hr p = ap not ((is_in_span_decides f n others row h hr).1 p)
 
-outside_true : (f : Field) (n : ℕ) (others : List (List ℕ)) (row : List ℕ) → AreVectors f n others → IsVector f n row → (InSpan f n others row → ⊥) →
+pub outside_true : (f : Field) (n : ℕ) (others : List (List ℕ)) (row : List ℕ) → AreVectors f n others → IsVector f n row → (InSpan f n others row → ⊥) →
     not (is_in_span f n others row) ≡ true
 outside_true f n others row h hr p =
     ap not (false_from_ne_true (is_in_span f n others row) (λ t. p ((is_in_span_decides f n others row h hr).0 t)))
@@ -174,6 +175,14 @@ pub none_outside : (f : Field) (n : ℕ) (given present : List (List ℕ)) → N
     None ≡ first_outside f n present given → verdict.Same ≡ compared_rows f n given present
 none_outside f n given present e g = ap₂ verdict_of_rows e g
 
+pub position_small : (f : Field) (n : ℕ) (rows others : List (List ℕ)) (found : Option ℕ) (most : ℕ) → length rows < most →
+    found ≡ first_outside f n rows others → IfSome found (λ i. i + 1 < most)
+position_small f n rows others None most l e = tt
+position_small f n rows others (Some i) most l e =
+    let p = position-Some (λ row. not (is_in_span f n others row)) rows i [] (sym e) in
+    let inside : i < length rows = p.0 in
+    omega arith
+
 pub found_small : (f : Field) (n : ℕ) (space rows : List (List ℕ)) (found : Option ℕ) (most : ℕ) → length rows < most →
     MatchOption found (IsWithin f n rows space) (λ i. IsFirstOutside f n space rows i) → IfSome found (λ i. i + 1 < most)
 found_small f n space rows None most l m = tt
@@ -200,22 +209,21 @@ ordered_rows : (names others : List (List ℕ)) (rows : List (List ℕ)) →
 ordered_rows names others rows =
     map_each _ _ rows (λ row. map-map (digit_at row) (λ name. position (bytes_eq name) names) others)
 
-pub same_elements : (f : Field) (given : Named) (tree : Tree) (places : List (Option ℕ)) (ordered present : MatrixValue) (v : Verdict) →
+pub same_elements : (f : Field) (given : Named) (tree : Tree) (places : List (Option ℕ)) (ordered : MatrixValue) (v : Verdict) →
     IsDistinct bytes_eq given.names → IsDistinct bytes_eq (element_names tree) → first_missing given.names (element_names tree) ≡ None →
     first_missing (element_names tree) given.names ≡ None → places ≡ map (λ name. position (bytes_eq name) given.names) (element_names tree) →
     ordered ≡ record { f = f; cols = length places; rows = map (λ row. map (digit_at row) places) given.rows } →
-    present.rows ≡ present_rows f tree → v ≡ compared_rows ordered.f ordered.cols ordered.rows present.rows → v ≡ compared f given tree
+    v ≡ compared_rows ordered.f ordered.cols ordered.rows (present_rows f tree) → v ≡ compared f given tree
 unfolding compared
-same_elements f given tree places ordered present v d k e g ep eo er ev =
+same_elements f given tree places ordered v d k e g ep eo ev =
     let names = given.names in
     let elements = element_names tree in
     let place : List ℕ → Option ℕ = λ name. position (bytes_eq name) names in
     let long : length places ≡ length names = ap length ep ∙ length-map elements place ∙ as_many elements names k d g e in
     ev
-    ∙ ap (λ (m : MatrixValue). compared_rows m.f m.cols m.rows present.rows) eo
-    ∙ ap₂ (λ n rows. compared_rows f n rows present.rows) long
+    ∙ ap (λ (m : MatrixValue). compared_rows m.f m.cols m.rows (present_rows f tree)) eo
+    ∙ ap₂ (λ n rows. compared_rows f n rows (present_rows f tree)) long
     (ap (λ ps. map (λ row. map (digit_at row) ps) given.rows) ep ∙ ordered_rows names elements given.rows)
-    ∙ ap (compared_rows f (length names) (map (in_order names elements) given.rows)) er
     ∙ sym (ap₂ (λ o p. verdict_of o p (compared_rows f (length names) (map (in_order names elements) given.rows) (present_rows f tree))) e g)
 
 pub three_different : (a b c : List ℕ) → (eq-value).it a b ≡ false → (eq-value).it a c ≡ false → (eq-value).it b c ≡ false →

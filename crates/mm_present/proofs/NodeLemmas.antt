@@ -86,7 +86,7 @@ part_is f op T t m ef em ok et =
       each = boundary_rows_are f T ok;
     }))
 
-op_over : (f : Field) (op : OpValue) → op.f ≡ f → op ≡ record { f = f; op = op.op }
+pub op_over : (f : Field) (op : OpValue) → op.f ≡ f → op ≡ record { f = f; op = op.op }
 op_over f op e = ap (λ g. record { f = g; op = op.op }) e
 
 pub join_part : (f : Field) (op : OpValue) (S L R : shapes.Tree) (first second m : MatrixValue) → op.f ≡ f → S ≡ shapes.Tree.Join op.op L R →

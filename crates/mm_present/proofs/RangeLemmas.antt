@@ -1,6 +1,7 @@
 -- Lists made from a function of the index: in two parts, with a shifted index, of equal functions.
-use Rattle.std.proofs.Common.{ℕ, zero, suc, ◌+◌, ◌<◌, ◌≤◌, ◌≡◌, List, [], ◌∷◌, ◌++◌, map, refl, ap, ap₂, ◌∙◌, arith}
+use Rattle.std.proofs.Common.{ℕ, zero, suc, ◌+◌, ◌<◌, ◌≤◌, ◌≡◌, List, [], ◌∷◌, ◌++◌, map, refl, sym, ap, ap₂, ◌∙◌, arith}
 use Rattle.std.specs.List.{range_with_len}
+use Rattle.std.proofs.lemmas.List.FromFn.{map-range_with_len_more}
 
 module _ {X : Type 0} where
   pub split_range : (g : ℕ → X) (a m n : ℕ) → map g (range_with_len a (m + n)) ≡ map g (range_with_len a m) ++ map g (range_with_len (a + m) n)
@@ -28,3 +29,13 @@ module _ {X : Type 0} where
 pub map_each : {X Y : Type 0} (h g : X → Y) (xs : List X) → ((x : X) → h x ≡ g x) → map h xs ≡ map g xs
 map_each h g [] e = refl
 map_each h g (x ∷ xs) e = ap₂ (λ y ys. y ∷ ys) (e x) (map_each h g xs e)
+
+map_itself : (xs : List ℕ) → map (λ i. i) xs ≡ xs
+map_itself [] = refl
+map_itself (x ∷ xs) = ap (λ ys. x ∷ ys) (map_itself xs)
+
+-- one more of the first numbers
+pub next_number : (n : ℕ) → range_with_len 0 n ++ n ∷ [] ≡ range_with_len 0 (n + 1)
+next_number n =
+    sym (sym (map_itself (range_with_len 0 (n + 1))) ∙ map-range_with_len_more (λ i. i) 0 n n (omega arith)
+    ∙ ap (λ xs. xs ++ n ∷ []) (map_itself (range_with_len 0 n)))

@@ -3,3 +3,6 @@ pub mod Bases
 pub mod Joining
 pub mod JoinCache
 pub mod Ordering
+pub mod Dependencies
+pub mod Images
+pub mod WholeSpaces

@@ -43,7 +43,7 @@ fn no_columns(alloc: Global, f: Field, t: u8) -> Result<Matrix, NoMemory>
 }
 
 /// The boundary rows of a leaf.
-fn leaf_rows(alloc: Global, f: Field, leaf: &Leaf) -> Result<Matrix, NoMemory>
+pub(crate) fn leaf_rows(alloc: Global, f: Field, leaf: &Leaf) -> Result<Matrix, NoMemory>
     requires { shapes.IsValid f (shape (named_leaf leaf.now)) }
     ensures { IfOk result (λ m. m ≡ boundary_matrix f (shape (named_leaf leaf.now))) }
 {

@@ -3,10 +3,14 @@
 ghost use Rattle.std.specs.Prelude.{◌≡◌, ◌<◌, ◌+◌, ◌^◌, IfOk, IfSome, length, map, All};
 ghost use Rattle.std.specs.List.{IsDistinct, position};
 ghost use Rattle.std.specs.Str.{bytes_eq};
-ghost use Rattle.mm_present.specs.Comparing.{compared, compared_rows, digit_at, first_missing, first_outside};
+ghost use Rattle.mm_present.specs.Comparing.{compared, compared_rows, digit_at, first_missing, first_outside, present_rows};
+ghost use Rattle.mm_logic.specs.Tree as shapes;
+ghost use Rattle.mm_tree.specs.NamedTree.{shape};
 ghost use Rattle.mm_present.specs.Ordering.{IsPlaceBelow};
 
 use crate::Named;
+use crate::dependencies::first_given_outside;
+use crate::images::are_present_inside;
 use crate::present::matrix_of;
 use indexmap::IndexSet;
 use mm_base::{Name, NameList, NoMemory};
@@ -115,16 +119,20 @@ fn outside(alloc: Global, rows: &Matrix, others: &Matrix) -> Result<Option<usize
     Ok(found)
 }
 
-/// The first row of either matrix that is outside the row space of the other.
-fn compare_rows(alloc: Global, given: &Matrix, present: &Matrix) -> Result<Verdict, NoMemory>
-    requires field { present.now.f ≡ given.now.f }
-    requires columns { present.now.cols ≡ given.now.cols }
-    ensures { IfOk result (λ v. v ≡ compared_rows given.now.f given.now.cols given.now.rows present.now.rows) }
+/// The first row of a given matrix, or of the tree's matrix, that is outside the row space of the other.
+fn compare_rows(alloc: Global, given: &Matrix, tree: &Tree) -> Result<Verdict, NoMemory>
+    requires field { given.now.f ≡ tree.now.f }
+    requires columns { given.now.cols ≡ shapes.size (shape tree.now.tree) }
+    ensures { IfOk result (λ v. v ≡ compared_rows given.now.f given.now.cols given.now.rows (present_rows tree.now.f tree.now.tree)) }
 {
-    if let Some(i) = outside(alloc, given, present)? {
+    if let Some(i) = first_given_outside(alloc, given, tree)? {
         return Ok(Verdict::Given(i + 1));
     }
-    match outside(alloc, present, given)? {
+    if are_present_inside(alloc, given, tree)? {
+        return Ok(Verdict::Same);
+    }
+    let present = matrix_of(alloc, tree)?;
+    match outside(alloc, &present.rows, given)? {
         Some(j) => Ok(Verdict::Present(j + 1)),
         None => Ok(Verdict::Same),
     }
@@ -149,6 +157,5 @@ pub fn compare(alloc: Global, given: &Named, tree: &Tree) -> Result<Verdict, NoM
     }
     let places = places_of(alloc, &elements, &given_names)?;
     let ordered = in_order(alloc, &given.rows, &places)?;
-    let present = matrix_of(alloc, tree)?;
-    compare_rows(alloc, &ordered, &present.rows)
+    compare_rows(alloc, &ordered, tree)
 }

@@ -4,6 +4,8 @@
 mod collecting;
 mod comparison;
 mod coordinates;
+mod dependencies;
+mod images;
 mod independence;
 mod join_cache;
 mod join_rows;

@@ -6,7 +6,7 @@ use Rattle.std.proofs.lemmas.Result.{IfOk-weaker}
 use Rattle.mm_present.specs.Ordering.{IsPlaceBelow}
 use Rattle.mm_matrix.specs.MatrixValue.{MatrixValue}
 use Rattle.mm_tree.specs.NamedTree.{element_names}
-use Rattle.mm_present.specs.Comparing.{Named, compared, compared_rows, digit_at, first_missing}
+use Rattle.mm_present.specs.Comparing.{Named, compared, compared_rows, digit_at, first_missing, present_rows}
 use Rattle.mm_present.proofs.CompareLemmas.{given_missing, element_missing, same_elements, places_below}
 use Rattle.mm_tree.proofs.ElementLemmas.{count_elements}
 use Rattle.mm_present.proofs.comparison.compare.Goals as goal
@@ -58,9 +58,8 @@ compare_rows-requires-clause-columns c =
     let places : c.deref.result.now ≡ map (λ name. position (bytes_eq name) names) elements =
     c.deref.ensures.value ∙ c.in_ok-places.ensures
     ∙ ap₂ (λ keys others. map (λ name. position (bytes_eq name) keys) others) c.in_ok-given_names.ensures c.in_ok-elements.ensures.names in
-    ap (λ (m : MatrixValue). m.cols) c.in_ok-present.ensures.rows
-    ∙ sym (ap (λ (m : MatrixValue). m.cols) c.in_ok-ordered.ensures
-    ∙ ap length places ∙ length-map elements (λ name. position (bytes_eq name) names) ∙ count_elements tree)
+    ap (λ (m : MatrixValue). m.cols) c.in_ok-ordered.ensures
+    ∙ ap length places ∙ length-map elements (λ name. position (bytes_eq name) names) ∙ count_elements tree
 
 pub returns : goal.returns
 returns c =
@@ -76,11 +75,10 @@ returns c =
     c.deref.ensures.value ∙ c.in_ok-places.ensures
     ∙ ap₂ (λ keys others. map (λ name. position (bytes_eq name) keys) others) c.in_ok-given_names.ensures c.in_ok-elements.ensures.names in
     let ordered = c.in_ok-ordered.ordered in
-    let present = c.in_ok-present.present.rows in
-    IfOk-weaker c.compare_rows.result (λ v. v ≡ compared_rows ordered.f ordered.cols ordered.rows present.rows) (λ v. v ≡ compared c.args.tree.now.f given tree)
-    (λ v e. same_elements c.args.tree.now.f given tree c.deref.result.now ordered present v c.requires.different
+    IfOk-weaker c.compare_rows.result (λ v. v ≡ compared_rows ordered.f ordered.cols ordered.rows (present_rows c.args.tree.now.f tree)) (λ v. v ≡ compared c.args.tree.now.f given tree)
+    (λ v e. same_elements c.args.tree.now.f given tree c.deref.result.now ordered v c.requires.different
     (subst (λ xs. IsDistinct bytes_eq xs) c.in_ok-elements.ensures.names c.in_ok-elements.ensures.different)
     (sym first ∙ c.in_default.is) (sym second ∙ c.in_default-first_missing.is) places
     (c.in_ok-ordered.ensures ∙ ap (λ f. record { f = f; cols = length c.deref.result.now; rows = map (λ row. map (digit_at row) c.deref.result.now) c.args.given.now.rows.rows }) c.requires.field)
-    (ap (λ (m : MatrixValue). m.rows) c.in_ok-present.ensures.rows) e)
+    e)
     c.compare_rows.ensures
