@@ -15,3 +15,4 @@ pub mod StepLemmas
 pub mod EqualLemmas
 pub mod MakeLemmas
 pub mod ShapeBuilderLemmas
+pub mod TreeShapeLemmas

@@ -7,3 +7,4 @@ pub mod Forms
 pub mod Stack
 pub mod Steps
 pub mod ShapeBuilding
+pub mod TreeShapes

@@ -11,7 +11,9 @@ mod form;
 mod operator;
 mod shape;
 mod shape_builder;
+mod tree_shape;
 
 pub use build::{DecompFault, build_tree};
 pub use shape::{Shape, Step};
 pub use shape_builder::{ShapeBuilder, ShapeFault};
+pub use tree_shape::shape_of;
