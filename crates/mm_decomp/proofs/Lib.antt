@@ -16,3 +16,4 @@ pub mod EqualLemmas
 pub mod MakeLemmas
 pub mod ShapeBuilderLemmas
 pub mod TreeShapeLemmas
+pub mod HeaderTextLemmas

@@ -8,3 +8,4 @@ pub mod Stack
 pub mod Steps
 pub mod ShapeBuilding
 pub mod TreeShapes
+pub mod HeaderText

@@ -12,8 +12,10 @@ mod operator;
 mod shape;
 mod shape_builder;
 mod tree_shape;
+mod write;
 
 pub use build::{DecompFault, build_tree};
 pub use shape::{Shape, Step};
 pub use shape_builder::{ShapeBuilder, ShapeFault};
 pub use tree_shape::shape_of;
+pub use write::write_header;
