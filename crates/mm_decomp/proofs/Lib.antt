@@ -17,3 +17,5 @@ pub mod MakeLemmas
 pub mod ShapeBuilderLemmas
 pub mod TreeShapeLemmas
 pub mod HeaderTextLemmas
+pub mod StepLineLemmas
+pub mod BuildStateLemmas

@@ -9,3 +9,6 @@ pub mod Steps
 pub mod ShapeBuilding
 pub mod TreeShapes
 pub mod HeaderText
+pub mod BuildLines
+pub mod Decompositions
+pub mod BuildStates

@@ -6,11 +6,14 @@
 #![tactic(auto)]
 
 mod build;
+mod build_lines;
+mod build_state;
 mod columns;
 mod form;
 mod operator;
 mod shape;
 mod shape_builder;
+mod step_lines;
 mod tree_shape;
 mod write;
 
