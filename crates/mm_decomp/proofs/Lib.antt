@@ -15,3 +15,7 @@ pub mod StepLemmas
 pub mod EqualLemmas
 pub mod MakeLemmas
 pub mod ShapeBuilderLemmas
+pub mod TreeShapeLemmas
+pub mod HeaderTextLemmas
+pub mod StepLineLemmas
+pub mod BuildStateLemmas

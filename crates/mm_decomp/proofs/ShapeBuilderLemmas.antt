@@ -42,7 +42,7 @@ free name all e l = untaken name all false e (lt-leb most_leaves (length (leaf_n
 
 -- ---- steps
 
-FindTwo-append : (shapes : List Shape) (xs ys : List Step) → FindTwo shapes xs → FindTwo (after_steps shapes xs) ys → FindTwo shapes (xs ++ ys)
+pub FindTwo-append : (shapes : List Shape) (xs ys : List Step) → FindTwo shapes xs → FindTwo (after_steps shapes xs) ys → FindTwo shapes (xs ++ ys)
 FindTwo-append shapes [] ys h k = k
 FindTwo-append shapes (steps.Leaf name weight ∷ xs) ys h k = FindTwo-append (after_step shapes (steps.Leaf name weight)) xs ys h k
 FindTwo-append shapes (steps.Join ∷ xs) ys h k = (h.0, FindTwo-append (after_step shapes steps.Join) xs ys h.1 k)

@@ -7,3 +7,8 @@ pub mod Forms
 pub mod Stack
 pub mod Steps
 pub mod ShapeBuilding
+pub mod TreeShapes
+pub mod HeaderText
+pub mod BuildLines
+pub mod Decompositions
+pub mod BuildStates

@@ -6,12 +6,19 @@
 #![tactic(auto)]
 
 mod build;
+mod build_lines;
+mod build_state;
 mod columns;
 mod form;
 mod operator;
 mod shape;
 mod shape_builder;
+mod step_lines;
+mod tree_shape;
+mod write;
 
 pub use build::{DecompFault, build_tree};
 pub use shape::{Shape, Step};
 pub use shape_builder::{ShapeBuilder, ShapeFault};
+pub use tree_shape::shape_of;
+pub use write::write_header;

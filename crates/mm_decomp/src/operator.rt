@@ -48,7 +48,7 @@ fn coordinates(alloc: Global, all: &Matrix) -> Result<Matrix, NoMemory>
 }
 
 /// Writes a vector: its digits, and `-` for none.
-fn append_digits(text: &mut Vec<u8>, digits: &[u8]) -> Result<(), NoMemory>
+pub(crate) fn append_digits(text: &mut Vec<u8>, digits: &[u8]) -> Result<(), NoMemory>
     requires { AreDigits Five digits.now }
     ensures { OnOk result (text.new.items ≡ text.old.items ++ vector_text digits.now) }
 {

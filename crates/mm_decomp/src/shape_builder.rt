@@ -1,6 +1,6 @@
 //! Shapes from their steps.
 
-ghost use Rattle.std.specs.Prelude.{◌≡◌, ◌≤◌, ◌++◌, [], ◌∷◌, length, nat_abs, OnOk, OnErr, IfOk, IfErr};
+ghost use Rattle.std.specs.Prelude.{◌≡◌, ◌==◌, ◌≤◌, ◌++◌, [], ◌∷◌, length, nat_abs, OnOk, OnErr, IfOk, IfErr};
 ghost use Rattle.mm_tree.specs.ValidTree.{most_weight};
 ghost use Rattle.mm_decomp.specs.Shapes.{after_steps};
 ghost use Rattle.mm_decomp.specs.ShapeBuilding.{Answers, AnswersExactly, leaf_fault, join_fault};
@@ -111,6 +111,13 @@ impl ShapeBuilder {
         self.depths.push(depth + 1).unwrap();
         self.steps.push(Step::Join).unwrap();
         Ok(())
+    }
+
+    /// Whether there is exactly one shape.
+    pub fn is_one(&self) -> bool
+        ensures { result ≡ (length (after_steps [] self.now) == 1) }
+    {
+        self.depths.len() == 1
     }
 
     /// The shape, where there is exactly one. After that the builder is as new; a builder that refuses is as before. It takes no memory.

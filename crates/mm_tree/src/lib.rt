@@ -15,7 +15,7 @@ pub use node::{Item, Leaf, Node};
 pub use place::Place;
 pub use replace::ReplaceFault;
 pub use tree::Tree;
-pub use write::write_tree;
+pub use write::{append_vector, write_tree};
 
 /// The most leaves of a tree.
 const MAX_LEAVES: usize = 8192;

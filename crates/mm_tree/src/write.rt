@@ -84,8 +84,8 @@ fn append_void(alloc: Global, text: &mut Text, name: &Name, t: u8) -> Result<(),
     text.append(alloc, b"\n")
 }
 
-/// The digits of a vector, and `-` for none.
-fn append_vector(alloc: Global, text: &mut Text, vec: Vector) -> Result<(), NoMemory>
+/// Writes the digits of a vector, and `-` for none.
+pub fn append_vector(alloc: Global, text: &mut Text, vec: Vector) -> Result<(), NoMemory>
     requires { AreShown vec }
     ensures { OnOk result (text.new ≡ text.old ++ vector_text vec) }
 {
