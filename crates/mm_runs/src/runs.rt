@@ -11,7 +11,7 @@ ghost use Rattle.mm_tree.specs.Places.{IsPlaceOf, path_of};
 ghost use Rattle.mm_nodes.specs.declared.TheConstants.{MAX_LIMIT};
 ghost use Rattle.mm_nodes.specs.declared.keeps.KeepFault.TheVariants.{Full};
 ghost use Rattle.mm_nodes.specs.Changes.{IsFull};
-ghost use Rattle.mm_nodes.specs.KeptTrees.{count, top};
+ghost use Rattle.mm_nodes.specs.KeptTrees.{count, entry_at, top};
 ghost use Rattle.mm_runs.specs.RunsCalls.{KeepRuns, StandBeside};
 
 use crate::{NodeRun, RunFault};
@@ -122,6 +122,14 @@ impl<A: Automaton> Runs<A> {
             (type_at (A.shape self.now.automaton) (A.lists self.now.automaton) (top self.now.runs)) }
     {
         self.automaton.accepts(self.kept.entry().id())
+    }
+
+    /// The number of the type at a node. No memory.
+    pub fn value_at(&self, place: &Place) -> TypeId
+        requires { place.now.number < count self.now.runs }
+        ensures { result ≡ entry_at place.now.number self.now.runs }
+    {
+        self.kept.entry_at(place.number()).id()
     }
 
     /// The automaton. No memory.
