@@ -1,0 +1,5 @@
+pub mod Rows
+pub mod Candidates
+pub mod Passes
+pub mod NodeRowsValue
+pub mod RowCalls
