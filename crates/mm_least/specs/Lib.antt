@@ -1,5 +1,6 @@
 pub mod Rows
 pub mod Candidates
+pub mod BestLaws
 pub mod Passes
 pub mod NodeRowsValue
 pub mod RowCalls

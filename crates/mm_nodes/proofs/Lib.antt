@@ -11,3 +11,4 @@ pub mod ExchangeLemmas
 pub mod KeptTypeLemmas
 pub mod ChangeLemmas
 pub mod TreeKeptLemmas
+pub mod EmptyLemmas
