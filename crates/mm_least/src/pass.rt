@@ -8,15 +8,19 @@ ghost use Rattle.mm_states.specs.Calls.{CanRead, CanJoin, IsOperand, IsRoomy, va
 ghost use Rattle.mm_states.specs.Letters.{leaf_type};
 ghost use Rattle.mm_states.specs.Letters as letters;
 ghost use Rattle.mm_states.specs.Lists.{AllFit};
+ghost use Rattle.mm_tree.specs.Nodes.{named_leaf};
 ghost use Rattle.mm_nodes.specs.Demands.{IsExact};
+ghost use Rattle.mm_nodes.specs.Calls.{CanMakeLeaf};
 ghost use Rattle.mm_least.specs.Rows.{shown};
-ghost use Rattle.mm_least.specs.Candidates.{candidate, typed, pairs_with, pairs_of};
+ghost use Rattle.mm_least.specs.Candidates.{candidate, leaf_candidates, typed, pairs_with, pairs_of};
 ghost use Rattle.mm_least.specs.Passes.{AreWithin, Passes, IsFaultOf, AreOperands, AreLight, most_sum};
 
 use crate::row::add_row;
 use crate::{LeastFault, Origin, Row};
+use mm_nodes::letter_of;
 use mm_ops::Op;
 use mm_states::{AutoFault, Automaton, Letter};
+use mm_tree::Leaf;
 use std::alloc::Global;
 
 /// The same fault.
@@ -56,6 +60,33 @@ pub(crate) fn add_letter<A: Automaton>(
             add_row(Row { id, weight, origin }, rows, room)
         }
         Err(fault) => Err(fault_of(fault)),
+    }
+}
+
+/// The candidates of a leaf.
+pub(crate) fn add_leaf<A: Automaton>(
+    alloc: Global,
+    automaton: &mut A,
+    leaf: &Leaf,
+    rows: &mut Vec<Row>,
+    room: &mut u64,
+) -> Result<(), LeastFault>
+    requires leaf { CanMakeLeaf (A.shape automaton.old) (A.field automaton.old) (A.lists automaton.old) leaf.now room.old }
+    requires exact { IsExact (A.shape automaton.old) (A.lists automaton.old) }
+    requires none { rows.old.items ≡ [] }
+    ensures shape { A.shape automaton.new ≡ A.shape automaton.old }
+    ensures field { A.field automaton.new ≡ A.field automaton.old }
+    ensures marked { A.marked automaton.new ≡ A.marked automaton.old }
+    ensures passes { Passes (A.shape automaton.old) (A.lists automaton.old) (A.lists automaton.new)
+        (leaf_candidates leaf.now.field (A.shape automaton.old) (named_leaf leaf.now)) rows.old.items rows.new.items
+        room.old room.new result }
+{
+    match add_letter(alloc, automaton, &letter_of(leaf, 0), 0, Origin::Out, rows, room) {
+        Ok(()) => match leaf.item {
+            Some(item) => add_letter(alloc, automaton, &letter_of(leaf, 1), item.weight, Origin::Taken, rows, room),
+            None => Ok(()),
+        },
+        Err(fault) => Err(fault),
     }
 }
 

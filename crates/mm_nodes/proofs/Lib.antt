@@ -12,3 +12,4 @@ pub mod KeptTypeLemmas
 pub mod ChangeLemmas
 pub mod TreeKeptLemmas
 pub mod EmptyLemmas
+pub mod LetterLemmas
