@@ -86,7 +86,7 @@ pub operands_stay : (F : Formula) (f : Field) (t : ℕ) (olds nows : List (List 
 operands_stay F f t olds nows [] b h = tt
 operands_stay F f t olds nows (p ∷ ps) b h = (operand_stays F f t olds nows p.0 b h.0, operands_stay F f t olds nows ps b h.1)
 
-typed_stays : (F : Formula) (f : Field) (t : ℕ) (olds nows : List (List Value)) (ps : List (ℕ × ℤ)) → AllBegin olds nows → AreOperands F f t olds ps → typed F nows ps ≡ typed F olds ps
+pub typed_stays : (F : Formula) (f : Field) (t : ℕ) (olds nows : List (List Value)) (ps : List (ℕ × ℤ)) → AllBegin olds nows → AreOperands F f t olds ps → typed F nows ps ≡ typed F olds ps
 typed_stays F f t olds nows [] b h = refl
 typed_stays F f t olds nows (p ∷ ps) b h = (λ i. (type_at-begins F olds nows p.0 b h.0.within i, p.1) ∷ typed_stays F f t olds nows ps b h.1 i)
 

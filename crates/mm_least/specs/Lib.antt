@@ -4,3 +4,4 @@ pub mod BestLaws
 pub mod Passes
 pub mod NodeRowsValue
 pub mod RowCalls
+pub mod RowLaws

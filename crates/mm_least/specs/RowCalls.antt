@@ -22,8 +22,15 @@ element_name (Elem name vec weight) = Some name
 element_name (Void name t) = None
 element_name (Join name op l r) = None
 
+-- the tree is a leaf
+abbrev pub IsLeaf : Tree → Type 0
+IsLeaf (Elem name vec weight) = Unit {0}
+IsLeaf (Void name t) = Unit {0}
+IsLeaf (Join name op l r) = ⊥
+
 -- The rows are the best of what a leaf offers, one for each type.
 pub record IsLeafRows (fr : Frame) (T : Tree) (n : NodeValue) : Type 0 where
+  pub leaf : IsLeaf T
   pub name : n.name ≡ element_name T
   pub within : AreWithin fr.F fr.lists (shown n.rows)
   pub rows : held fr.F fr.lists n.rows ≡ put_all (leaf_candidates fr.f fr.F T) []

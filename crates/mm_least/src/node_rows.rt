@@ -15,11 +15,14 @@ ghost use Rattle.mm_tree.specs.Nodes.{named_leaf};
 ghost use Rattle.mm_nodes.specs.Demands.{Frame, IsExact, frame};
 ghost use Rattle.mm_nodes.specs.Calls.{CanMakeLeaf};
 ghost use Rattle.mm_least.specs.Rows.{shown};
+ghost use Rattle.mm_least.specs.RowLaws.{ShowSame, asks, leaf_has, join_has, fits, leaf_stays, join_stays, same_left, same_right, same_itself};
 ghost use Rattle.mm_least.specs.RowCalls.{IsLeafRows, IsJoinRows, CanBeJoined, MakesRows, row_types, element_name};
 
 use crate::pass::{add_leaf, add_pairs};
+use crate::row::show_same;
 use crate::{LeastFault, Row};
 use mm_base::{Name, Steps};
+use mm_nodes::Keeps;
 use mm_ops::Op;
 use mm_states::Automaton;
 use mm_tree::Leaf;
@@ -120,6 +123,70 @@ impl NodeRows {
             Err(fault) => Err(fault),
         }
     }
+}
+
+impl Keeps for NodeRows {
+    ghost query = { Least };
+
+    ghost types = { row_types };
+
+    ghost rows = { λ n. length n.rows };
+
+    ghost IsLeaf = { IsLeafRows };
+
+    ghost IsJoin = { IsJoinRows };
+
+    ghost Same = { ShowSame };
+
+    ghost Fits = { CanBeJoined };
+
+    fn leaf<A: Automaton, L: Ledger>(
+        alloc: Global,
+        automaton: &mut A,
+        leaf: &Leaf,
+        room: u64,
+        steps: &mut Steps<L>,
+    ) -> Result<NodeRows, LeastFault> {
+        NodeRows::leaf(alloc, automaton, leaf, room, steps)
+    }
+
+    fn join<A: Automaton, L: Ledger>(
+        alloc: Global,
+        automaton: &mut A,
+        op: &Op,
+        left: &NodeRows,
+        right: &NodeRows,
+        room: u64,
+        steps: &mut Steps<L>,
+    ) -> Result<NodeRows, LeastFault> {
+        NodeRows::join(alloc, automaton, op, left, right, room, steps)
+    }
+
+    fn row_count(&self) -> u32 {
+        self.rows.len() as u32
+    }
+
+    fn looks_same(&self, other: &NodeRows) -> bool {
+        show_same(&self.rows, &other.rows)
+    }
+
+    ghost asks = { asks };
+
+    ghost leaf_has = { leaf_has };
+
+    ghost join_has = { join_has };
+
+    ghost fits = { fits };
+
+    ghost leaf_stays = { leaf_stays };
+
+    ghost join_stays = { join_stays };
+
+    ghost same_left = { same_left };
+
+    ghost same_right = { same_right };
+
+    ghost same_itself = { same_itself };
 }
 
 /// The name of the element of a leaf.

@@ -1,7 +1,7 @@
 //! One type at a node, with the least set of that type.
 
-ghost use Rattle.std.specs.Prelude.{◌≡◌, ◌<◌, ◌+◌, ℕ, length, Some};
-ghost use Rattle.mm_least.specs.Rows.{IsPlaceIn, Appends, Puts, AddsRow};
+ghost use Rattle.std.specs.Prelude.{◌≡◌, ◌<◌, ◌+◌, ℕ, length, Some, true};
+ghost use Rattle.mm_least.specs.Rows.{IsPlaceIn, Appends, Puts, AddsRow, shown};
 
 use crate::LeastFault;
 use mm_states::TypeId;
@@ -79,4 +79,19 @@ pub(crate) fn add_row(row: Row, rows: &mut Vec<Row>, room: &mut u64) -> Result<(
             push_row(row, rows)
         }
     }
+}
+
+/// Whether rows show the same types and weights, place by place.
+pub(crate) fn show_same(rows: &[Row], others: &[Row]) -> bool
+    ensures { result ≡ true → shown rows.now ≡ shown others.now }
+{
+    if rows.len() != others.len() {
+        return false;
+    }
+    for k in 0..rows.len() {
+        if rows[k].id != others[k].id || rows[k].weight != others[k].weight {
+            return false;
+        }
+    }
+    true
 }
