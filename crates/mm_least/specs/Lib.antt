@@ -5,3 +5,5 @@ pub mod Passes
 pub mod NodeRowsValue
 pub mod RowCalls
 pub mod RowLaws
+pub mod LeastValue
+pub mod LeastCalls

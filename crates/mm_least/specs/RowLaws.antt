@@ -250,7 +250,7 @@ to_light : (F : Formula) (f : Field) (t n : ℕ) (lists : List (List Value)) (ro
 to_light F f t n lists [] few h = tt
 to_light F f t n lists (r ∷ rows) few h = (bounded n (nat_abs r.weight) few h.0.1, to_light F f t n lists rows few h.1)
 
-top_within : (fr : Frame) (T : Tree) (R : KeptTree NodeValue) → StandsFor (IsLeafRows fr) (IsJoinRows fr) T R → AreWithin fr.F fr.lists (shown (top R).rows)
+pub top_within : (fr : Frame) (T : Tree) (R : KeptTree NodeValue) → StandsFor (IsLeafRows fr) (IsJoinRows fr) T R → AreWithin fr.F fr.lists (shown (top R).rows)
 top_within fr (Elem name vec weight) (One n) s = s.within
 top_within fr (Void name t) (One n) s = s.within
 top_within fr (Join name op l r) (Two n a b) s = s.0.within

@@ -1,5 +1,6 @@
 -- Empty lists.
 use Rattle.std.proofs.Common.{◌≡◌, ◌≤◌, ◌+◌, ℕ, List, [], ◌∷◌, map, length, refl, sym, ap, ◌∙◌, subst, arith}
+use Rattle.std.specs.Prelude.{OnOk, OnErr, Result, Ok, Err}
 use Rattle.mm_logic.specs.Formula.{Formula}
 use Rattle.mm_logic.specs.Formula.Formula.{Const, Ind, Member, SameElem, Sub, SameSet, Not, Bin, ExSet, AllSet, ExElem, AllElem}
 use Rattle.mm_logic.specs.Value.{Value}
@@ -39,3 +40,12 @@ exact_empty F lists e =
 
 pub empty_cells : (F : Formula) (lists : List (List Value)) (limit : ℕ) → lists ≡ no_values F → list_cells (parts F) lists ≤ limit
 empty_cells F lists limit e = let none = ap (list_cells (parts F)) e ∙ cells-none F in omega (arith, none)
+
+-- what holds after an Ok, and after a refusal
+pub by_result : {E : Type 0} {P Q X Y Z : Type 0} (r : Result (Unit {0}) E) → OnOk r P → (P → Q) → OnErr r X → OnErr r Y → OnErr r Z → (X → Y → Z → Q) → Q
+by_result (Ok u) p f x y z g = f p
+by_result (Err e) p f x y z g = g x y z
+
+pub on_ok : {E : Type 0} {P Q : Type 0} (r : Result (Unit {0}) E) → OnOk r P → (P → Q) → OnOk r Q
+on_ok (Ok u) p f = f p
+on_ok (Err e) p f = tt

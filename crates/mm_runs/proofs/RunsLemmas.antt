@@ -28,12 +28,3 @@ below f F lists (Join name op l r) (One id) s = absurd s
 pub top_below : (n : ℕ) (R : KeptTree ℕ) → AreBelow n R → top R < n
 top_below n (One id) s = s
 top_below n (Two id a b) s = s.0
-
--- what holds after an Ok, and after a refusal
-pub by_result : {E : Type 0} {P Q X Y Z : Type 0} (r : Result (Unit {0}) E) → OnOk r P → (P → Q) → OnErr r X → OnErr r Y → OnErr r Z → (X → Y → Z → Q) → Q
-by_result (Ok u) p f x y z g = f p
-by_result (Err e) p f x y z g = g x y z
-
-pub on_ok : {E : Type 0} {P Q : Type 0} (r : Result (Unit {0}) E) → OnOk r P → (P → Q) → OnOk r Q
-on_ok (Ok u) p f = f p
-on_ok (Err e) p f = tt
