@@ -1,42 +1,39 @@
 -- The rows of a leaf and of a join.
-use Rattle.std.proofs.Common.{◌≡◌, ◌<◌, ◌≤◌, ◌+◌, ◌==◌, ℕ, zero, suc, Bool, true, false, if◌then◌else◌, ℤ, pos, List, [], ◌∷◌, ◌++◌, map, length, Option, Some, None, Result, Ok, Err, refl, sym, ap, ◌∙◌, subst, arith}
+use Rattle.std.proofs.Common.{◌≡◌, ◌<◌, ◌≤◌, ◌+◌, ◌==◌, ℕ, zero, suc, Bool, true, false, if◌then◌else◌, ℤ, pos, List, [], ◌∷◌, length, Option, Some, None, Result, Ok, Err, refl, sym, ap, ◌∙◌, subst, arith}
 use Rattle.std.specs.Int.{bit_at}
-use Rattle.std.proofs.lemmas.Nat.Bits.{bit_at-zero, bit_at-suc, bit_at_lowest}
+use Rattle.std.proofs.lemmas.Nat.Bits.{bit_at-zero, bit_at-suc}
 use Rattle.mm_field.specs.declared.Field.{Field}
 use Rattle.mm_logic.specs.Formula.{Formula}
-use Rattle.mm_logic.specs.Operator.{Op}
 use Rattle.mm_logic.specs.Value.{Value}
 use Rattle.mm_logic.specs.Marks.{mark, no_marks}
-use Rattle.mm_logic.specs.Occurrence.{nodes as parts, occurring, distinct, list_cells}
+use Rattle.mm_logic.specs.Occurrence.{nodes as parts, occurring, distinct}
 use Rattle.mm_logic.specs.StateSize.Query.{Least}
-use Rattle.mm_logic.specs.JoinRule.{all_pairs, join_type}
-use Rattle.mm_logic.specs.Growth.{type_at, missing_cells, AllBegin, AllGrown}
+use Rattle.mm_logic.specs.JoinRule.{join_type}
+use Rattle.mm_logic.specs.Growth.{missing_cells, AllBegin, AllGrown}
 use Rattle.mm_logic.proofs.GrowthLemmas.{AllBegin-grown, list_cells-grown}
 use Rattle.mm_logic_laws.specs.ValueLaws.{types_by_rules}
 use Rattle.mm_ops.specs.OpValue.{OpValue}
 use Rattle.mm_states.specs.Letters.{leaf_type, type_at_leaf, marks_of}
 use Rattle.mm_states.specs.declared.letter.Letter.{Letter}
-use Rattle.mm_tree.specs.NamedTree.{Tree, shape}
-use Rattle.mm_tree.specs.NamedTree.Tree.{Elem, Void, Join}
+use Rattle.mm_tree.specs.NamedTree.{shape}
 use Rattle.mm_tree.specs.Nodes.{named_leaf}
 use Rattle.mm_tree.specs.declared.node.Item.{Item}
 use Rattle.mm_tree.specs.declared.node.Leaf.{Leaf}
-use Rattle.mm_nodes.specs.Demands.{Frame, IsExact}
+use Rattle.mm_nodes.specs.Demands.{IsExact}
 use Rattle.mm_nodes.specs.LeafLetters.{IsLetterOf, vec_of}
 use Rattle.mm_nodes.specs.declared.keeps.KeepFault.{KeepFault}
-use Rattle.mm_nodes.specs.declared.keeps.KeepFault.TheVariants.{Full}
 use Rattle.mm_nodes.proofs.LetterLemmas.{letter_type}
 use Rattle.mm_least.specs.declared.row.Row.{Row}
 use Rattle.mm_least.specs.declared.row.Origin.{Origin}
 use Rattle.mm_least.specs.declared.row.Origin.TheVariants.{Out, Taken}
 use Rattle.mm_least.specs.NodeRowsValue.{NodeValue}
 use Rattle.mm_least.specs.Rows.{shown}
-use Rattle.mm_least.specs.Candidates.{Candidate, candidate, put_all, types_of, held, typed, leaf_candidates, pairs_with, pairs_of}
+use Rattle.mm_least.specs.Candidates.{Candidate, candidate, put_all, types_of, typed, leaf_candidates, pairs_of}
 use Rattle.mm_least.specs.BestLaws.{best-count}
 use Rattle.mm_least.specs.Passes.{AreWithin, Passed, AreTooMany, Passes, AreOperands}
-use Rattle.mm_least.specs.RowCalls.{IsLeaf, IsLeafRows, IsJoinRows, MadeRows, row_types, element_name}
+use Rattle.mm_least.specs.RowCalls.{IsLeaf, IsJoinRows, MadeRows}
 use Rattle.mm_least.proofs.PassLemmas.{within-stays}
-use Rattle.mm_least.proofs.WalkLemmas.{passed_none, passed_then, too_many_then, goes_on, typed_stays}
+use Rattle.mm_least.proofs.WalkLemmas.{passed_none, passed_then, too_many_then, typed_stays}
 
 -- ---- the marks of a leaf
 

@@ -1,19 +1,16 @@
 -- The walk over candidates, step by step.
-use Rattle.std.proofs.Common.{◌≡◌, ◌<◌, ◌≤◌, ◌+◌, ◌-◌, ℕ, zero, suc, Bool, true, false, not, ◌||◌, if◌then◌else◌, ℤ, int_lt, nat_eq, List, [], ◌∷◌, ◌++◌, map, filter, sum_by, length, get_or, Result, Ok, Err, refl, sym, ap, ◌∙◌, subst, arith, length-append}
+use Rattle.std.proofs.Common.{◌≡◌, ◌<◌, ◌≤◌, ◌+◌, ◌-◌, ℕ, zero, suc, Bool, true, false, not, ◌||◌, if◌then◌else◌, ℤ, int_lt, nat_eq, List, [], ◌∷◌, ◌++◌, filter, sum_by, length, get_or, Result, Ok, Err, refl, sym, ap, ◌∙◌, subst, arith}
 use Rattle.std.proofs.Common.{◌+ℤ◌, w64, SFits, to_z, of_z}
 use Rattle.std.proofs.lemmas.Int.{to_z-of_z}
-use Rattle.std.specs.List.{list_any}
 use Rattle.std.proofs.lemmas.List.{length-map, map-append}
 use Rattle.mm_logic.specs.Formula.{Formula}
 use Rattle.mm_logic.specs.Value.{Value}
 use Rattle.mm_logic.specs.Value.Value.{Dead}
 use Rattle.mm_logic.specs.Occurrence.{same, is_among, distinct, fresh, nodes as parts, occurring, list_cells}
-use Rattle.mm_logic.specs.Growth.{root, type_at, no_values, missing_cells, Grown, SameBag, AllBegin, AllGrown}
+use Rattle.mm_logic.specs.Growth.{root, type_at, no_values, missing_cells, Grown, AllBegin}
 use Rattle.mm_logic.proofs.BagLemmas.{sum_by-cons}
-use Rattle.mm_logic.proofs.SetLemmas.{list_any-same}
-use Rattle.mm_logic.proofs.OccurrenceLemmas.{same_flip, filter_kept}
-use Rattle.mm_logic.proofs.GrowthLemmas.{members-distinct, AllBegin-grown, type_at-begins, within-begins, list_cells-grown, calls-then, missing-more, missing-calls}
-use Rattle.mm_states.specs.Lists.{AllFit}
+use Rattle.mm_logic.proofs.OccurrenceLemmas.{same_flip}
+use Rattle.mm_logic.proofs.GrowthLemmas.{members-distinct, AllBegin-grown, type_at-begins, within-begins, list_cells-grown}
 use Rattle.mm_states.specs.Calls.{Numbers}
 use Rattle.mm_states.specs.declared.letter.AutoFault.{AutoFault}
 use Rattle.mm_states.specs.declared.letter.AutoFault.TheVariants as auto
@@ -21,13 +18,13 @@ use Rattle.mm_nodes.specs.Demands.{IsExact}
 use Rattle.mm_nodes.specs.declared.keeps.KeepFault.{KeepFault}
 use Rattle.mm_nodes.specs.declared.keeps.KeepFault.TheVariants.{Full, NoMemory}
 use Rattle.mm_nodes.proofs.EmptyLemmas.{root_none}
-use Rattle.mm_nodes.proofs.RoomLemmas.{root-grows, exact-then, exact_none}
+use Rattle.mm_nodes.proofs.RoomLemmas.{root-grows, exact-then}
 use Rattle.mm_least.specs.declared.row.Row.{Row}
 use Rattle.mm_least.specs.declared.row.Origin.{Origin}
 use Rattle.mm_least.specs.Rows.{put_row, AddsRow, shown}
-use Rattle.mm_least.specs.Candidates.{Candidate, candidate, put, put_all, types_of, held}
-use Rattle.mm_least.specs.BestLaws.{Different, same_is_equal, same_itself, put-longer, put_all-longer, put_all-append}
-use Rattle.mm_least.specs.Passes.{AreWithin, Passed, AreTooMany, Passes, IsFaultOf}
+use Rattle.mm_least.specs.Candidates.{Candidate, candidate, put, held}
+use Rattle.mm_least.specs.BestLaws.{Different, same_itself, put-longer}
+use Rattle.mm_least.specs.Passes.{AreWithin, AreTooMany, Passes, IsFaultOf}
 
 -- ---- types of exact lists are different
 

@@ -1,5 +1,5 @@
 -- A row put beside others.
-use Rattle.std.proofs.Common.{◌≡◌, ◌<◌, ◌+◌, ◌-◌, Some, Result, Ok, Err, ℕ, zero, suc, Bool, true, false, ◌||◌, if◌then◌else◌, ℤ, int_lt, nat_eq, List, [], ◌∷◌, ◌++◌, take, drop, length, get_or, refl, sym, ap, ◌∙◌, subst, arith, append_assoc, length-append}
+use Rattle.std.proofs.Common.{◌≡◌, ◌<◌, ◌+◌, ◌-◌, Some, Result, Ok, Err, ℕ, zero, suc, Bool, true, false, ◌||◌, if◌then◌else◌, int_lt, nat_eq, List, [], ◌∷◌, ◌++◌, take, drop, length, get_or, refl, sym, ap, ◌∙◌, arith, append_assoc, length-append}
 use Rattle.std.specs.List.{list_any}
 use Rattle.mm_least.specs.declared.row.Row.{Row}
 use Rattle.mm_least.specs.Rows.{IsPlaceIn, Appends, Puts, AddsRow, put_row}

@@ -1,6 +1,6 @@
 -- The walk over the candidates of a join.
-use Rattle.std.proofs.Common.{◌≡◌, ◌<◌, ◌≤◌, ◌+◌, ◌^◌, ◌+ℤ◌, ℕ, zero, suc, ℤ, nat_abs, List, [], ◌∷◌, ◌++◌, map, take, drop, length, get_or, Result, Ok, Err, refl, sym, ap, ◌∙◌, subst, arith, length-append, take-append-drop, append_assoc}
-use Rattle.std.proofs.lemmas.List.{length-map, map-append, take_more, length-take-le}
+use Rattle.std.proofs.Common.{◌≡◌, ◌<◌, ◌+◌, ◌+ℤ◌, ℕ, zero, suc, ℤ, List, [], ◌∷◌, ◌++◌, take, drop, length, get_or, Err, refl, sym, ap, ◌∙◌, subst, arith, take-append-drop, append_assoc}
+use Rattle.std.proofs.lemmas.List.{map-append, take_more, length-take-le}
 use Rattle.mm_field.specs.declared.Field.{Field}
 use Rattle.mm_logic.specs.Formula.{Formula}
 use Rattle.mm_logic.specs.Value.{Value}
@@ -11,8 +11,7 @@ use Rattle.mm_logic.specs.PossibleValues.{IsValueOf}
 use Rattle.mm_logic.proofs.GrowthLemmas.{AllBegin-grown, type_at-begins, within-begins, list_cells-grown, calls-then, missing-more, missing-calls}
 use Rattle.mm_ops.specs.OpValue.{OpValue}
 use Rattle.mm_states.specs.Lists.{AllFit}
-use Rattle.mm_states.specs.Letters as letters
-use Rattle.mm_states.specs.Calls.{IsOperand, CanJoin, IsRoomy, value_of_join}
+use Rattle.mm_states.specs.Calls.{IsOperand, IsRoomy, value_of_join}
 use Rattle.mm_nodes.specs.Demands.{IsExact}
 use Rattle.mm_nodes.specs.declared.keeps.KeepFault.{KeepFault}
 use Rattle.mm_nodes.specs.declared.keeps.KeepFault.TheVariants.{Full}
@@ -23,7 +22,7 @@ use Rattle.mm_least.specs.declared.row.Origin.TheVariants.{Pair}
 use Rattle.mm_least.specs.Rows.{shown}
 use Rattle.mm_least.specs.Candidates.{Candidate, candidate, put_all, types_of, held, typed, pairs_with, pairs_of}
 use Rattle.mm_least.specs.BestLaws.{put_all-longer, put_all-append}
-use Rattle.mm_least.specs.Passes.{AreWithin, Passed, AreTooMany, Passes, AreOperands, AreLight, most_sum}
+use Rattle.mm_least.specs.Passes.{AreWithin, Passed, AreTooMany, Passes, AreOperands}
 
 types-append : (cs ds : List (Candidate Origin)) → types_of (cs ++ ds) ≡ types_of cs ++ types_of ds
 types-append cs ds = map-append (λ c. c.type) cs ds

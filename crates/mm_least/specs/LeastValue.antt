@@ -1,5 +1,5 @@
 -- Rows of a whole tree as contracts see them, and how they are kept.
-use Rattle.std.specs.Prelude.{◌≡◌, ℕ, List, [], None, length}
+use Rattle.std.specs.Prelude.{ℕ, List, [], None, length}
 use Rattle.std.proofs.Common.{refl}
 use Rattle.std.specs.Coded.{Coded, code_by, coded×, coded_ℕ}
 use Rattle.mm_logic.specs.Formula.{Formula}

@@ -1,5 +1,5 @@
 -- The laws of rows.
-use Rattle.std.proofs.Common.{◌≡◌, ◌<◌, ◌≤◌, ◌+◌, ◌*◌, ◌+ℤ◌, ℕ, zero, suc, ℤ, pos, nat_abs, Bool, true, false, ◌||◌, if◌then◌else◌, int_lt, List, [], ◌∷◌, ◌++◌, map, length, get_or, refl, sym, ap, ◌∙◌, subst, arith, All, length-append}
+use Rattle.std.proofs.Common.{◌≡◌, ◌<◌, ◌≤◌, ◌+◌, ◌*◌, ◌+ℤ◌, ℕ, zero, suc, ℤ, nat_abs, Bool, true, false, ◌||◌, if◌then◌else◌, int_lt, List, [], ◌∷◌, ◌++◌, map, length, get_or, refl, sym, ap, ◌∙◌, subst, arith, length-append}
 use Rattle.std.specs.List.{list_any}
 use Rattle.std.proofs.lemmas.Int.{ints}
 use Rattle.std.proofs.lemmas.List.{length-map}
@@ -11,18 +11,15 @@ use Rattle.mm_logic.specs.Value.{Value}
 use Rattle.mm_logic.specs.Value.Value.{Dead}
 use Rattle.mm_logic.specs.Marks.{mark, no_marks}
 use Rattle.mm_logic.specs.Occurrence.{same, distinct}
-use Rattle.mm_logic.specs.LeafRule.{elem_type, void_type}
 use Rattle.mm_logic.specs.StateSize.{asked}
 use Rattle.mm_logic.specs.StateSize.Query.{Least}
 use Rattle.mm_logic.specs.Growth.{root, type_at, AllBegin}
 use Rattle.mm_logic.specs.JoinRule.{join_type, all_pairs}
-use Rattle.mm_logic.specs.Order.{SameMembers}
 use Rattle.mm_logic.specs.PossibleValues.{IsValueOf}
 use Rattle.mm_logic.proofs.GrowthLemmas.{type_at-begins, within-begins}
 use Rattle.mm_logic_laws.specs.ValueLaws.{types_by_rules}
 use Rattle.mm_logic_laws.proofs.PossibleValueLemmas.{rules_keep_values}
 use Rattle.mm_states.specs.Lists.{AllFit}
-use Rattle.mm_states.specs.Calls.{IsOperand}
 use Rattle.mm_tree.specs.NamedTree.{Tree, shape, boundary, leaf_names, weights}
 use Rattle.mm_tree.specs.NamedTree.Tree.{Elem, Void, Join}
 use Rattle.mm_tree.specs.ValidTree.{IsValidTree, most_leaves, most_weight}
@@ -30,7 +27,6 @@ use Rattle.mm_tree.proofs.TreeLemmas.{valid_left, valid_right, shape_boundary}
 use Rattle.mm_nodes.specs.KeptTrees.{KeptTree, top, StandsFor}
 use Rattle.mm_nodes.specs.KeptTrees.KeptTree.{One, Two}
 use Rattle.mm_nodes.specs.Demands.{Frame, HasTypes, IsWithin}
-use Rattle.mm_nodes.proofs.StandsLemmas.{same-then}
 use Rattle.mm_least.specs.declared.row.Row.{Row}
 use Rattle.mm_least.specs.declared.row.Origin.{Origin}
 use Rattle.mm_least.specs.NodeRowsValue.{NodeValue}

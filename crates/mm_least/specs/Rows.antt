@@ -1,5 +1,5 @@
 -- Rows as they are kept: by the numbers of their types.
-use Rattle.std.specs.Prelude.{◌≡◌, ◌<◌, ◌+◌, ℕ, suc, ℤ, int_lt, nat_eq, true, false, if◌then◌else◌, List, [], ◌∷◌, ◌++◌, map, take, length, slice_index_or, Option, Some, None, Result, Ok, Err}
+use Rattle.std.specs.Prelude.{◌≡◌, ◌<◌, ◌+◌, ℕ, ℤ, int_lt, nat_eq, false, if◌then◌else◌, List, [], ◌∷◌, ◌++◌, map, take, length, slice_index_or, Option, Some, None, Result, Ok, Err}
 use Rattle.std.specs.List.{list_any}
 use Rattle.mm_least.specs.declared.row.Row.{Row}
 use Rattle.mm_nodes.specs.declared.keeps.KeepFault.{KeepFault}

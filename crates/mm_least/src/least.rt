@@ -10,7 +10,7 @@ ghost use Rattle.mm_nodes.specs.declared.TheConstants.{MAX_LIMIT};
 ghost use Rattle.mm_nodes.specs.declared.keeps.KeepFault.TheVariants.{Full};
 ghost use Rattle.mm_least.specs.LeastCalls.{KeepRows, IsFullOfRows, StandBeside};
 
-use crate::{NodeRows, LeastFault};
+use crate::{LeastFault, NodeRows};
 use mm_base::Steps;
 use mm_nodes::Kept;
 use mm_states::Automaton;
@@ -54,8 +54,8 @@ impl<A: Automaton> Least<A> {
         requires limited { limit ≤ MAX_LIMIT }
         requires empty { A.lists automaton ≡ no_values (A.shape automaton) }
         requires over { letters.IsOver (A.shape automaton) (A.field automaton) tree.now.f }
-        ensures same { IfOk result (λ least. (A.shape least.automaton ≡ A.shape automaton) × (A.field least.automaton ≡ A.field automaton)
-            × (least.limit ≡ limit)) }
+        ensures same { IfOk result (λ least. (A.shape least.automaton ≡ A.shape automaton) ×
+            (A.field least.automaton ≡ A.field automaton) × (least.limit ≡ limit)) }
         ensures ticks { steps.new ≤ steps.old + nodes tree.now.tree }
         ensures starts { IfOk result (λ least. KeepRows (A.shape automaton) [] (A.lists least.automaton)
             (A.marked least.automaton) tree.now.f tree.now.tree limit least.rows) }

@@ -15,7 +15,8 @@ ghost use Rattle.mm_tree.specs.Nodes.{named_leaf};
 ghost use Rattle.mm_nodes.specs.Demands.{Frame, IsExact, frame};
 ghost use Rattle.mm_nodes.specs.Calls.{CanMakeLeaf};
 ghost use Rattle.mm_least.specs.Rows.{shown};
-ghost use Rattle.mm_least.specs.RowLaws.{ShowSame, asks, leaf_has, join_has, fits, leaf_stays, join_stays, same_left, same_right, same_itself};
+ghost use Rattle.mm_least.specs.RowLaws.{ShowSame, asks, leaf_has, join_has, fits, leaf_stays, join_stays};
+ghost use Rattle.mm_least.specs.RowLaws.{same_left, same_right, same_itself};
 ghost use Rattle.mm_least.specs.RowCalls.{IsLeafRows, IsJoinRows, CanBeJoined, MakesRows, row_types, element_name};
 
 use crate::pass::{add_leaf, add_pairs};

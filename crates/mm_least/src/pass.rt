@@ -81,9 +81,25 @@ pub(crate) fn add_leaf<A: Automaton>(
         (leaf_candidates leaf.now.field (A.shape automaton.old) (named_leaf leaf.now)) rows.old.items rows.new.items
         room.old room.new result }
 {
-    match add_letter(alloc, automaton, &letter_of(leaf, 0), 0, Origin::Out, rows, room) {
+    match add_letter(
+        alloc,
+        automaton,
+        &letter_of(leaf, 0),
+        0,
+        Origin::Out,
+        rows,
+        room,
+    ) {
         Ok(()) => match leaf.item {
-            Some(item) => add_letter(alloc, automaton, &letter_of(leaf, 1), item.weight, Origin::Taken, rows, room),
+            Some(item) => add_letter(
+                alloc,
+                automaton,
+                &letter_of(leaf, 1),
+                item.weight,
+                Origin::Taken,
+                rows,
+                room,
+            ),
             None => Ok(()),
         },
         Err(fault) => Err(fault),
@@ -101,7 +117,8 @@ fn add_pair<A: Automaton>(
     rows: &mut Vec<Row>,
     room: &mut u64,
 ) -> Result<(), LeastFault>
-    requires can { CanJoin (A.shape automaton.old) (A.field automaton.old) (A.lists automaton.old) op.now left.now.id right.now.id room.old }
+    requires can { CanJoin (A.shape automaton.old) (A.field automaton.old) (A.lists automaton.old) op.now
+        left.now.id right.now.id room.old }
     requires exact { IsExact (A.shape automaton.old) (A.lists automaton.old) }
     requires within { AreWithin (A.shape automaton.old) (A.lists automaton.old) (shown rows.old.items) }
     requires left { nat_abs left.now.weight ≤ most_sum }

@@ -59,8 +59,8 @@ impl<A: Automaton> Runs<A> {
         requires limited { limit ≤ MAX_LIMIT }
         requires empty { A.lists automaton ≡ no_values (A.shape automaton) }
         requires over { letters.IsOver (A.shape automaton) (A.field automaton) tree.now.f }
-        ensures same { IfOk result (λ runs. (A.shape runs.automaton ≡ A.shape automaton) × (A.field runs.automaton ≡ A.field automaton)
-            × (runs.limit ≡ limit)) }
+        ensures same { IfOk result (λ runs. (A.shape runs.automaton ≡ A.shape automaton) ×
+            (A.field runs.automaton ≡ A.field automaton) × (runs.limit ≡ limit)) }
         ensures ticks { steps.new ≤ steps.old + nodes tree.now.tree }
         ensures starts { IfOk result (λ runs. KeepRuns (A.shape automaton) [] (A.lists runs.automaton)
             (A.marked runs.automaton) tree.now.f tree.now.tree limit runs.runs) }

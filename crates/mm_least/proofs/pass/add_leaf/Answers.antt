@@ -1,4 +1,4 @@
-use Rattle.std.proofs.Common.{rules, ◌≡◌, ◌<◌, ◌≤◌, ℕ, pos, [], ◌∷◌, refl, sym, ap, ◌∙◌, subst, arith}
+use Rattle.std.proofs.Common.{rules, ◌≡◌, [], ◌∷◌, sym, subst, arith}
 use Rattle.std.proofs.Common.{ℤ, w64, SFits, to_z, of_z}
 use Rattle.std.proofs.lemmas.Int.{to_z-of_z}
 use Rattle.mm_field.specs.declared.Field.{Field}
@@ -7,7 +7,7 @@ use Rattle.mm_states.specs.Letters.{leaf_type}
 use Rattle.mm_nodes.specs.Calls.{CanMakeLeaf}
 use Rattle.mm_nodes.specs.Demands.{IsExact}
 use Rattle.mm_nodes.proofs.LetterLemmas.{can_read}
-use Rattle.mm_least.specs.declared.row.Origin.TheVariants.{Out, Taken}
+use Rattle.mm_least.specs.declared.row.Origin.TheVariants.{Taken}
 use Rattle.mm_least.specs.Candidates.{candidate}
 use Rattle.mm_least.specs.Passes.{AreWithin, Passes}
 use Rattle.mm_least.specs.Rows.{shown}

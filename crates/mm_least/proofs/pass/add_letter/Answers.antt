@@ -1,11 +1,10 @@
-use Rattle.std.proofs.Common.{◌≡◌, ◌-◌, ◌<◌, ◌≤◌, ◌+ℤ◌, sym, ap, ◌∙◌, subst, arith}
+use Rattle.std.proofs.Common.{◌≡◌, ◌-◌, ◌<◌, sym, ap, ◌∙◌, subst, arith}
 use Rattle.mm_logic.specs.Formula.{Formula}
 use Rattle.mm_logic.specs.Occurrence.{nodes as parts, list_cells}
 use Rattle.mm_states.specs.Letters.{leaf_type}
-use Rattle.mm_states.specs.Calls.{value_of_join}
-use Rattle.mm_least.proofs.PassLemmas.{added_cells, cells_fit, cells_below, one_passes, one_refused, weight_is}
-use Rattle.std.proofs.Common.{rules, ℤ, w64, SFits, to_z, of_z}
-use Rattle.std.proofs.lemmas.Int.{ints, to_z-of_z}
+use Rattle.mm_least.proofs.PassLemmas.{added_cells, cells_fit, cells_below, one_passes, one_refused}
+use Rattle.std.proofs.Common.{rules, w64, SFits, to_z, of_z}
+use Rattle.std.proofs.lemmas.Int.{to_z-of_z}
 use Rattle.mm_least.specs.Rows.{AddsRow}
 use Rattle.mm_least.proofs.pass.add_letter.Goals as goal
 

@@ -1,5 +1,4 @@
-use Rattle.std.proofs.Common.{rules, ◌≡◌, ◌<◌, ◌≤◌, ℤ, pos, [], slice_index_or, nat_abs, refl, sym, ap, ◌∙◌, subst, arith}
-use Rattle.mm_field.specs.declared.Field.{Field}
+use Rattle.std.proofs.Common.{◌≤◌, pos, [], slice_index_or, nat_abs, refl, sym, ◌∙◌, subst}
 use Rattle.mm_logic.specs.Formula.{Formula}
 use Rattle.mm_logic.specs.JoinRule.{join_type}
 use Rattle.mm_logic.specs.Growth.{type_at}
@@ -10,7 +9,7 @@ use Rattle.mm_least.specs.declared.row.Origin.TheVariants.{Out}
 use Rattle.mm_least.specs.Rows.{shown}
 use Rattle.mm_least.specs.Candidates.{typed, pairs_with}
 use Rattle.mm_least.specs.Passes.{Passed, AreTooMany, AreOperands, most_sum}
-use Rattle.mm_least.proofs.WalkLemmas.{passed_none, still_exact, begins, still_roomy, fit_at, operand_stays, operands_stay, of_step, of_full}
+use Rattle.mm_least.proofs.WalkLemmas.{passed_none, still_exact, begins, fit_at, operand_stays, operands_stay, of_step, of_full}
 use Rattle.mm_least.proofs.pass.add_pairs.Goals as goal
 
 abbrev none : Row
@@ -63,7 +62,7 @@ loop-k-preserved g c =
       c.in-Ok.ensures.field ∙ c.loop-k.invariant.1,
       c.in-Ok.ensures.marked ∙ c.loop-k.invariant.2,
       of_step (g.A.Automaton.shape c.args.automaton.now) op (g.A.Automaton.lists c.args.automaton.now) lists left right c.loop-k.k none c.loop-k-test.true c.requires.left c.requires.right
-      c.args.rows.now.items c.loop-k.rows.items c.add_pairs_with.new.rows.items c.args.room.now c.loop-k.room c.add_pairs_with.new.room c.loop-k.invariant.3 nows
-      (subst (λ (G : Formula). Passed G lists nows (pairs_with (join_type op.f G op.op) (type_at G lists (slice_index_or left c.loop-k.k none).id, (slice_index_or left c.loop-k.k none).weight) c.loop-k.k (typed G lists (shown right)) 0) c.loop-k.rows.items c.add_pairs_with.new.rows.items c.loop-k.room c.add_pairs_with.new.room)
-      c.loop-k.invariant.0 c.in-Ok.ensures.passes),
+          c.args.rows.now.items c.loop-k.rows.items c.add_pairs_with.new.rows.items c.args.room.now c.loop-k.room c.add_pairs_with.new.room c.loop-k.invariant.3 nows
+          (subst (λ (G : Formula). Passed G lists nows (pairs_with (join_type op.f G op.op) (type_at G lists (slice_index_or left c.loop-k.k none).id, (slice_index_or left c.loop-k.k none).weight) c.loop-k.k (typed G lists (shown right)) 0) c.loop-k.rows.items c.add_pairs_with.new.rows.items c.loop-k.room c.add_pairs_with.new.room)
+          c.loop-k.invariant.0 c.in-Ok.ensures.passes),
     )

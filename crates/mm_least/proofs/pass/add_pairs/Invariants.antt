@@ -1,6 +1,5 @@
-use Rattle.std.proofs.Common.{◌≡◌, ℕ, List, take}
+use Rattle.std.proofs.Common.{◌≡◌, take}
 use Rattle.mm_logic.specs.JoinRule.{join_type}
-use Rattle.mm_logic.specs.Growth.{type_at}
 use Rattle.mm_least.specs.Rows.{shown}
 use Rattle.mm_least.specs.Candidates.{typed, pairs_of}
 use Rattle.mm_least.specs.Passes.{Passed}

@@ -1,7 +1,6 @@
-use Rattle.std.proofs.Common.{rules, ◌≡◌, ◌-◌, ◌<◌, ◌≤◌, ◌+ℤ◌, ℤ, pos, [], ◌∷◌, slice_index_or, nat_abs, refl, sym, ap, ◌∙◌, subst, arith}
+use Rattle.std.proofs.Common.{◌≤◌, ◌+ℤ◌, pos, [], ◌∷◌, slice_index_or, nat_abs, refl, sym, ◌∙◌, subst}
 use Rattle.mm_field.specs.declared.Field.{Field}
 use Rattle.mm_logic.specs.Formula.{Formula}
-use Rattle.mm_states.specs.Letters as letters
 use Rattle.mm_states.specs.Calls.{CanJoin, IsOperand, value_of_join}
 use Rattle.mm_nodes.specs.Demands.{IsExact}
 use Rattle.mm_least.specs.declared.row.Row.{Row}
@@ -66,7 +65,7 @@ loop-k-preserved g c =
       c.in-Ok.ensures.field ∙ c.loop-k.invariant.1,
       c.in-Ok.ensures.marked ∙ c.loop-k.invariant.2,
       with_step F op olds lists left c.args.place right c.loop-k.k none c.loop-k-test.true c.requires.left.within c.requires.right
-      c.args.rows.now.items c.loop-k.rows.items c.add_pair.new.rows.items c.args.room.now c.loop-k.room c.add_pair.new.room c.loop-k.invariant.3 nows
-      (subst (λ (G : Formula). Passed G lists nows (candidate (value_of_join G lists op left.id (slice_index_or right c.loop-k.k none).id) (left.weight +ℤ (slice_index_or right c.loop-k.k none).weight) (Pair c.args.place c.loop-k.k) ∷ []) c.loop-k.rows.items c.add_pair.new.rows.items c.loop-k.room c.add_pair.new.room)
-      c.loop-k.invariant.0 c.in-Ok.ensures.passes),
+          c.args.rows.now.items c.loop-k.rows.items c.add_pair.new.rows.items c.args.room.now c.loop-k.room c.add_pair.new.room c.loop-k.invariant.3 nows
+          (subst (λ (G : Formula). Passed G lists nows (candidate (value_of_join G lists op left.id (slice_index_or right c.loop-k.k none).id) (left.weight +ℤ (slice_index_or right c.loop-k.k none).weight) (Pair c.args.place c.loop-k.k) ∷ []) c.loop-k.rows.items c.add_pair.new.rows.items c.loop-k.room c.add_pair.new.room)
+          c.loop-k.invariant.0 c.in-Ok.ensures.passes),
     )

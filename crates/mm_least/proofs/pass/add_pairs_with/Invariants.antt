@@ -1,4 +1,4 @@
-use Rattle.std.proofs.Common.{◌≡◌, ℕ, List, take}
+use Rattle.std.proofs.Common.{◌≡◌, take}
 use Rattle.mm_logic.specs.JoinRule.{join_type}
 use Rattle.mm_logic.specs.Growth.{type_at}
 use Rattle.mm_least.specs.Rows.{shown}

@@ -1,5 +1,5 @@
-use Rattle.std.proofs.Common.{rules, ◌≡◌, ◌<◌, ◌+◌, ℕ, length, List, [], ◌∷◌, ◌++◌, Some, None, sym, ap, ◌∙◌, subst, arith, length-append}
-use Rattle.mm_least.specs.Rows.{IsPlaceIn, AddsRow, put_row}
+use Rattle.std.proofs.Common.{length, [], ◌∷◌, Some, None, ap, ◌∙◌, subst, arith, length-append}
+use Rattle.mm_least.specs.Rows.{IsPlaceIn}
 use Rattle.mm_least.proofs.RowLemmas.{put_none, adds_in_place, adds_last}
 use Rattle.mm_least.proofs.row.add_row.Goals as goal
 

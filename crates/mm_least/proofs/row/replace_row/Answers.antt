@@ -1,5 +1,5 @@
-use Rattle.std.proofs.Common.{rules, ◌≡◌, sym, ap, ◌∙◌, arith, true, false, int_lt, w64, SFits, ℤ, refl}
-use Rattle.std.proofs.lemmas.Int.{ints, to_z-of_z}
+use Rattle.std.proofs.Common.{rules, ◌≡◌, arith, true, false, int_lt, w64, SFits, refl}
+use Rattle.std.proofs.lemmas.Int.{to_z-of_z}
 use Rattle.mm_least.proofs.RowLemmas.{replaced, stays}
 use Rattle.mm_least.proofs.row.replace_row.Goals as goal
 

@@ -1,4 +1,4 @@
-use Rattle.std.proofs.Common.{rules, ◌≡◌, ◌<◌, ◌≤◌, ℕ, List, [], ◌∷◌, refl, sym, ap, ◌∙◌, subst, arith}
+use Rattle.std.proofs.Common.{◌≡◌, List, [], ap, ◌∙◌, subst}
 use Rattle.mm_logic.specs.JoinRule.{join_type}
 use Rattle.mm_nodes.specs.Demands.{frame}
 use Rattle.mm_least.specs.declared.row.Row.{Row}
@@ -6,7 +6,7 @@ use Rattle.mm_least.specs.Rows.{shown}
 use Rattle.mm_least.specs.Candidates.{typed, pairs_of}
 use Rattle.mm_least.specs.Passes.{Passed, AreTooMany}
 use Rattle.mm_least.specs.RowCalls.{IsJoinRows}
-use Rattle.mm_least.proofs.NodeLemmas.{joins_rows, made_rows, too_many_rows, few_rows}
+use Rattle.mm_least.proofs.NodeLemmas.{joins_rows, made_rows, too_many_rows}
 use Rattle.mm_least.specs.RowLaws.{of-types}
 use Rattle.mm_least.proofs.node_rows.NodeRows.join.Goals as goal
 

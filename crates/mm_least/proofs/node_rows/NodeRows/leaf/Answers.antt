@@ -1,10 +1,10 @@
-use Rattle.std.proofs.Common.{rules, ◌≡◌, ◌<◌, ◌≤◌, ℕ, [], ◌∷◌, refl, sym, ap, ◌∙◌, subst, arith}
+use Rattle.std.proofs.Common.{[], subst}
 use Rattle.mm_tree.specs.Nodes.{named_leaf}
 use Rattle.mm_nodes.specs.Demands.{frame}
 use Rattle.mm_least.specs.Candidates.{leaf_candidates}
 use Rattle.mm_least.specs.Passes.{Passed, AreTooMany}
 use Rattle.mm_least.specs.RowCalls.{IsLeafRows}
-use Rattle.mm_least.proofs.NodeLemmas.{is_leaf, leaf_types, made_rows, too_many_rows, few_rows}
+use Rattle.mm_least.proofs.NodeLemmas.{is_leaf, leaf_types, made_rows, too_many_rows}
 use Rattle.mm_least.proofs.node_rows.NodeRows.leaf.Goals as goal
 
 pub returns-in-Ok-clause-makes : goal.returns-in-Ok-clause-makes
