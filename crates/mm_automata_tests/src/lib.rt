@@ -7,4 +7,6 @@ mod base_auto;
 #[cfg(test)]
 mod combine;
 #[cfg(test)]
+mod kept;
+#[cfg(test)]
 mod states;

@@ -11,3 +11,5 @@ pub mod ExchangeLemmas
 pub mod KeptTypeLemmas
 pub mod ChangeLemmas
 pub mod TreeKeptLemmas
+pub mod EmptyLemmas
+pub mod LetterLemmas

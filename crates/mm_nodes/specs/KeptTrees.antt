@@ -27,6 +27,12 @@ module _ {N : Type 0} where
   path_in (suc k) (One n) = []
   path_in (suc k) (Two n a b) = if nat_lt k (count a) then true ∷ path_in k a else false ∷ path_in (k - count a) b
 
+  -- the entry of the node of a number
+  abbrev pub entry_at : ℕ → KeptTree N → N
+  entry_at zero R = top R
+  entry_at (suc k) (One n) = n
+  entry_at (suc k) (Two n a b) = if nat_lt k (count a) then entry_at k a else entry_at (k - count a) b
+
   -- The part at the end of a way exchanged for a new one, and the entries above it for those that were made, the lowest first. Where
   -- fewer were made, those further up stay.
   abbrev pub remade : Path → KeptTree N → KeptTree N → List N → KeptTree N

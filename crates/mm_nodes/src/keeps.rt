@@ -14,7 +14,7 @@ ghost use Rattle.mm_tree.specs.NamedTree.{Tree, shape, boundary};
 ghost use Rattle.mm_tree.specs.Nodes.{named_leaf};
 ghost use Rattle.mm_tree.specs.ValidTree.{IsValidTree};
 ghost use Rattle.mm_nodes.specs.KeptTrees.{KeptTree, StandsFor, top};
-ghost use Rattle.mm_nodes.specs.Demands.{Frame, HasTypes, frame};
+ghost use Rattle.mm_nodes.specs.Demands.{Frame, HasTypes, IsExact, frame};
 ghost use Rattle.mm_nodes.specs.Calls.{CanMakeLeaf, Makes};
 
 use mm_base::Steps;
@@ -66,7 +66,8 @@ pub trait Keeps: Drop {
     ) -> Result<Self, KeepFault>
     where
         Self: Sized,
-        requires { CanMakeLeaf (A.shape automaton.old) (A.field automaton.old) (A.lists automaton.old) leaf.now room }
+        requires leaf { CanMakeLeaf (A.shape automaton.old) (A.field automaton.old) (A.lists automaton.old) leaf.now room }
+        requires exact { IsExact (A.shape automaton.old) (A.lists automaton.old) }
         ensures shape { A.shape automaton.new ≡ A.shape automaton.old }
         ensures field { A.field automaton.new ≡ A.field automaton.old }
         ensures marked { A.marked automaton.new ≡ A.marked automaton.old }
@@ -91,6 +92,7 @@ pub trait Keeps: Drop {
         requires left { Fits (frame op.now.f (A.shape automaton.old) (A.lists automaton.old)) op.now.op.t1 left.now }
         requires right { Fits (frame op.now.f (A.shape automaton.old) (A.lists automaton.old)) op.now.op.t2 right.now }
         requires roomy { IsRoomy (A.shape automaton.old) (A.lists automaton.old) room }
+        requires exact { IsExact (A.shape automaton.old) (A.lists automaton.old) }
         ensures shape { A.shape automaton.new ≡ A.shape automaton.old }
         ensures field { A.field automaton.new ≡ A.field automaton.old }
         ensures marked { A.marked automaton.new ≡ A.marked automaton.old }

@@ -2,7 +2,7 @@
 
 ghost use Rattle.std.specs.Prelude.{◌≡◌, ◌<◌, ◌+◌, ◌^◌, ◌≤◌, ℕ, length, []};
 ghost use Rattle.mm_nodes.specs.KeptTrees.KeptTree.{Two};
-ghost use Rattle.mm_nodes.specs.KeptTrees.{top, count, row_sum, path_in, remade, rows_beside};
+ghost use Rattle.mm_nodes.specs.KeptTrees.{top, count, entry_at, row_sum, path_in, remade, rows_beside};
 ghost use Rattle.mm_nodes.specs.KeptNodes.{tree_of, IsCounted};
 
 use crate::Keeps;
@@ -41,6 +41,28 @@ impl<N: Keeps> Kept<N> {
         match self {
             Kept::One(entry) => entry,
             Kept::Two(above, _, _) => &above.entry,
+        }
+    }
+
+    /// The entry of the node of a number.
+    pub fn entry_at(&self, at: u32) -> &N
+        requires counted { IsCounted N.rows self.now }
+        requires within { at < count (tree_of self.now) }
+        ensures { result.now ≡ entry_at at (tree_of self.now) }
+    {
+        if at == 0 {
+            return self.entry();
+        }
+        match self {
+            Kept::One(entry) => entry,
+            Kept::Two(_, left, right) => {
+                let before = left.nodes();
+                if at - 1 < before {
+                    left.entry_at(at - 1)
+                } else {
+                    right.entry_at(at - 1 - before)
+                }
+            }
         }
     }
 

@@ -6,11 +6,13 @@ mod change;
 mod exchange;
 mod keeps;
 mod kept;
+mod letters;
 mod redo_tree;
 mod remake;
 
 pub use keeps::{KeepFault, Keeps};
 pub use kept::Kept;
+pub use letters::letter_of;
 pub use redo_tree::{of, redo};
 
 /// The greatest limit on state sizes.

@@ -28,7 +28,9 @@ use Rattle.mm_tree.specs.declared.node.Node as nodes_of
 use Rattle.mm_nodes.specs.Calls.{CanMakeLeaf, Makes}
 use Rattle.mm_nodes.specs.declared.keeps.KeepFault.{KeepFault}
 use Rattle.mm_nodes.specs.declared.keeps.KeepFault.TheVariants.{Full}
-use Rattle.mm_runs.specs.RunCalls.{IsLeafRun, IsJoinRun, IsLetterOf, Runs, IsRunOf, vec_of}
+use Rattle.mm_runs.specs.RunCalls.{IsLeafRun, IsJoinRun, Runs, IsRunOf}
+use Rattle.mm_nodes.specs.LeafLetters.{IsLetterOf, vec_of}
+use Rattle.mm_nodes.proofs.LetterLemmas.{letter_type}
 use Rattle.mm_runs.specs.RunLaws.{decided}
 
 no_bits : marks_of 0 ≡ no_marks
@@ -41,31 +43,10 @@ type_of_item f F leaf None = refl
 type_of_item f F leaf (Some item) = refl
 
 -- the leaf rule gives the type that is joined at a leaf
-pub letter_type : (F : Formula) (leaf : Leaf) (letter : Letter) → IsLetterOf leaf letter
+pub run_type : (F : Formula) (leaf : Leaf) (letter : Letter) → IsLetterOf leaf 0 letter
     → leaf_type F letter ≡ joined leaf.field F (lettered (shape (named_leaf leaf)) (unmarked (size (shape (named_leaf leaf)))))
-letter_type F leaf letter h =
-    (λ i. type_at_leaf (h.field i) F (h.boundary i) (marks_of (h.marks i)) (h.vector i))
-    ∙ ap (λ m. type_at_leaf leaf.field F leaf.t m (vec_of leaf.item)) no_bits ∙ type_of_item leaf.field F leaf leaf.item
-
-vector_of_item : (leaf : Leaf) (item : Option Item) → IsOver leaf.field (nodes_of.Leaf (record leaf { item = item })) → IsValidTree leaf.field (named_leaf (record leaf { item = item }))
-    → (leaf.t ≤ 6) × IsVectorOf leaf.field leaf.t (vec_of item)
-unfolding shape IsOver boundary
-vector_of_item leaf None o v = (v.valid_shape, tt)
-vector_of_item leaf (Some item) o v = (subst (λ t. t ≤ 6) (sym o.1) v.valid_shape.1, (sym o.1, v.valid_shape.0))
-
--- a leaf of a valid tree can be read
-pub can_read : (F : Formula) (g : Field) (lists : List (List Value)) (leaf : Leaf) (letter : Letter) (room : ℕ) → CanMakeLeaf F g lists leaf room → IsLetterOf leaf letter → CanRead F g lists letter room
-can_read F g lists leaf letter room c h =
-    let both = vector_of_item leaf leaf.item c.over c.valid in
-    record {
-      field = subst (letters.IsOver F g) (sym h.field) c.field;
-      readable = record {
-        boundary = subst (λ t. t ≤ 6) (sym h.boundary) both.0;
-        vector = subst (λ v. IsVectorOf letter.field letter.t v) (sym h.vector)
-            (subst (λ t. IsVectorOf letter.field t (vec_of leaf.item)) (sym h.boundary) (subst (λ f. IsVectorOf f leaf.t (vec_of leaf.item)) (sym h.field) both.1));
-      };
-      roomy = c.roomy;
-    }
+run_type F leaf letter h =
+    letter_type F leaf 0 letter h ∙ ap (λ m. type_at_leaf leaf.field F leaf.t m (vec_of leaf.item)) no_bits ∙ type_of_item leaf.field F leaf leaf.item
 
 pub runs_of : (F : Formula) (v w : Value) (olds nows : List (List Value)) (room : ℕ) (id : Result ℕ AutoFault) (run : Result ℕ KeepFault) → v ≡ w → IsRunOf id run → Answers F v olds nows room id → Runs F w olds nows room run
 runs_of F v w olds nows room (Ok id) (Ok run) e r a = subst (λ u. Runs F u olds nows room (Ok run)) e (subst (λ i. Numbers F v olds nows i) (sym r) a.0, a.1)

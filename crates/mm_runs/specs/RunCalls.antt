@@ -1,5 +1,5 @@
 -- What a run is, and what a call for one answers.
-use Rattle.std.specs.Prelude.{◌≡◌, ◌<◌, ◌≤◌, ℕ, List, ◌∷◌, [], length, Option, Some, None, Result, Ok, Err}
+use Rattle.std.specs.Prelude.{◌≡◌, ◌<◌, ◌≤◌, ℕ, List, ◌∷◌, [], length, Result, Ok, Err}
 use Rattle.mm_logic.specs.Formula.{Formula}
 use Rattle.mm_logic.specs.Operator.{Op}
 use Rattle.mm_logic.specs.Value.{Value}
@@ -10,9 +10,6 @@ use Rattle.mm_logic.specs.Tree.{size}
 use Rattle.mm_states.specs.Calls.{Numbers}
 use Rattle.mm_states.specs.declared.letter.AutoFault.{AutoFault}
 use Rattle.mm_states.specs.declared.letter.AutoFault.TheVariants as auto
-use Rattle.mm_states.specs.declared.letter.Letter.{Letter}
-use Rattle.mm_tree.specs.declared.node.Item.{Item}
-use Rattle.mm_tree.specs.declared.node.Leaf.{Leaf}
 use Rattle.mm_tree.specs.NamedTree.{Tree, shape}
 use Rattle.mm_nodes.specs.Demands.{Frame}
 use Rattle.mm_nodes.specs.declared.keeps.KeepFault.{KeepFault}
@@ -42,15 +39,3 @@ IsRunOf (Ok id) (Ok run) = run ≡ id
 IsRunOf (Err auto.Full) (Err e) = e ≡ Full
 IsRunOf (Err auto.NoMemory) (Err e) = e ≡ NoMemory
 IsRunOf _ _ = ⊥
-
--- the vector of the element, if there is one
-abbrev pub vec_of : Option Item → Option (List ℕ)
-vec_of None = None
-vec_of (Some item) = Some item.vec
-
--- The letter shows the leaf's field, boundary and vector, and no marks.
-pub record IsLetterOf (leaf : Leaf) (letter : Letter) : Type 0 where
-  pub field : letter.field ≡ leaf.field
-  pub boundary : letter.t ≡ leaf.t
-  pub vector : letter.vec ≡ vec_of leaf.item
-  pub marks : letter.marks ≡ 0

@@ -15,14 +15,14 @@ ghost use Rattle.mm_tree.specs.NamedTree.{Tree, shape};
 ghost use Rattle.mm_tree.specs.Nodes.{named_leaf};
 ghost use Rattle.mm_nodes.specs.Demands.{Frame};
 ghost use Rattle.mm_nodes.specs.Calls.{CanMakeLeaf};
-ghost use Rattle.mm_runs.specs.RunCalls.{IsLeafRun, IsJoinRun, Runs, IsRunOf, IsLetterOf};
+ghost use Rattle.mm_runs.specs.RunCalls.{IsLeafRun, IsJoinRun, Runs, IsRunOf};
 ghost use Rattle.mm_runs.specs.RunLaws.{asks, leaf_has, join_has, fits, leaf_stays, join_stays, same_left, same_right};
 
 use crate::RunFault;
 use mm_base::Steps;
-use mm_nodes::Keeps;
+use mm_nodes::{Keeps, letter_of};
 use mm_ops::Op;
-use mm_states::{AutoFault, Automaton, Letter, TypeId};
+use mm_states::{AutoFault, Automaton, TypeId};
 use mm_tree::Leaf;
 use std::alloc::Global;
 use std::marker::Model;
@@ -61,7 +61,7 @@ impl NodeRun {
             (A.lists automaton.new) room result }
     {
         steps.tick();
-        run_of(automaton.leaf(alloc, &letter_of(leaf), room))
+        run_of(automaton.leaf(alloc, &letter_of(leaf, 0), room))
     }
 
     /// The run of a join. `Full` exactly where the automaton's call is.
@@ -91,21 +91,6 @@ impl NodeRun {
         ensures { result ≡ self.now }
     {
         self.id
-    }
-}
-
-/// What a leaf shows: its vector, without marks.
-fn letter_of(leaf: &Leaf) -> Letter
-    ensures { IsLetterOf leaf.now result }
-{
-    Letter {
-        field: leaf.field,
-        t: leaf.t,
-        vec: match leaf.item {
-            Some(item) => Some(item.vec),
-            None => None,
-        },
-        marks: 0,
     }
 }
 

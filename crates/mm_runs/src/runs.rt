@@ -11,7 +11,7 @@ ghost use Rattle.mm_tree.specs.Places.{IsPlaceOf, path_of};
 ghost use Rattle.mm_nodes.specs.declared.TheConstants.{MAX_LIMIT};
 ghost use Rattle.mm_nodes.specs.declared.keeps.KeepFault.TheVariants.{Full};
 ghost use Rattle.mm_nodes.specs.Changes.{IsFull};
-ghost use Rattle.mm_nodes.specs.KeptTrees.{count, top};
+ghost use Rattle.mm_nodes.specs.KeptTrees.{count, entry_at, top};
 ghost use Rattle.mm_runs.specs.RunsCalls.{KeepRuns, StandBeside};
 
 use crate::{NodeRun, RunFault};
@@ -59,8 +59,8 @@ impl<A: Automaton> Runs<A> {
         requires limited { limit ≤ MAX_LIMIT }
         requires empty { A.lists automaton ≡ no_values (A.shape automaton) }
         requires over { letters.IsOver (A.shape automaton) (A.field automaton) tree.now.f }
-        ensures same { IfOk result (λ runs. (A.shape runs.automaton ≡ A.shape automaton) × (A.field runs.automaton ≡ A.field automaton)
-            × (runs.limit ≡ limit)) }
+        ensures same { IfOk result (λ runs. (A.shape runs.automaton ≡ A.shape automaton) ×
+            (A.field runs.automaton ≡ A.field automaton) × (runs.limit ≡ limit)) }
         ensures ticks { steps.new ≤ steps.old + nodes tree.now.tree }
         ensures starts { IfOk result (λ runs. KeepRuns (A.shape automaton) [] (A.lists runs.automaton)
             (A.marked runs.automaton) tree.now.f tree.now.tree limit runs.runs) }
@@ -122,6 +122,14 @@ impl<A: Automaton> Runs<A> {
             (type_at (A.shape self.now.automaton) (A.lists self.now.automaton) (top self.now.runs)) }
     {
         self.automaton.accepts(self.kept.entry().id())
+    }
+
+    /// The number of the type at a node. No memory.
+    pub fn value_at(&self, place: &Place) -> TypeId
+        requires { place.now.number < count self.now.runs }
+        ensures { result ≡ entry_at place.now.number self.now.runs }
+    {
+        self.kept.entry_at(place.number()).id()
     }
 
     /// The automaton. No memory.

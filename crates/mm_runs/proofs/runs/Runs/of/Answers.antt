@@ -7,7 +7,8 @@ use Rattle.mm_nodes.specs.Changes.{IsFull}
 use Rattle.mm_nodes.specs.KeptNodes.{tree_of}
 use Rattle.mm_runs.specs.RunsCalls.{KeepRuns}
 use Rattle.mm_runs.specs.RunsView.{IsKept}
-use Rattle.mm_runs.proofs.RunsLemmas.{root_none, exact_empty, empty_cells, below}
+use Rattle.mm_nodes.proofs.EmptyLemmas.{root_none, exact_empty, empty_cells}
+use Rattle.mm_runs.proofs.RunsLemmas.{below}
 use Rattle.mm_runs.proofs.runs.Runs.of.Goals as goal
 
 pub of-requires-clause-exact : goal.of-requires-clause-exact

@@ -9,7 +9,8 @@ use Rattle.mm_nodes.specs.declared.keeps.KeepFault.TheVariants.{Full}
 use Rattle.mm_runs.specs.RunsCalls.{KeepRuns}
 use Rattle.mm_runs.specs.RunsValue.{RunsValue}
 use Rattle.mm_runs.specs.RunsView.{IsKept}
-use Rattle.mm_runs.proofs.RunsLemmas.{by_result, on_ok, below}
+use Rattle.mm_nodes.proofs.EmptyLemmas.{by_result, on_ok}
+use Rattle.mm_runs.proofs.RunsLemmas.{below}
 use Rattle.mm_runs.proofs.runs.Runs.redo.Goals as goal
 
 pub invariant_of-self : goal.invariant_of-self

@@ -1,0 +1,4 @@
+pub mod RowLemmas
+pub mod PassLemmas
+pub mod WalkLemmas
+pub mod NodeLemmas

@@ -1,0 +1,41 @@
+use Rattle.std.proofs.Common.{◌≡◌, List, [], ap, ◌∙◌, subst}
+use Rattle.mm_logic.specs.JoinRule.{join_type}
+use Rattle.mm_nodes.specs.Demands.{frame}
+use Rattle.mm_least.specs.declared.row.Row.{Row}
+use Rattle.mm_least.specs.Rows.{shown}
+use Rattle.mm_least.specs.Candidates.{typed, pairs_of}
+use Rattle.mm_least.specs.Passes.{Passed, AreTooMany}
+use Rattle.mm_least.specs.RowCalls.{IsJoinRows}
+use Rattle.mm_least.proofs.NodeLemmas.{joins_rows, made_rows, too_many_rows}
+use Rattle.mm_least.specs.RowLaws.{of-types}
+use Rattle.mm_least.proofs.node_rows.NodeRows.join.Goals as goal
+
+pub returns-in-Ok-clause-makes : goal.returns-in-Ok-clause-makes
+returns-in-Ok-clause-makes g c =
+    let F = g.A.Automaton.shape c.args.automaton.now in
+    let olds = g.A.Automaton.lists c.args.automaton.now in
+    let nows = g.A.Automaton.lists c.add_pairs.new.automaton in
+    let op = c.args.op.now in
+    let l : c.deref.result.now ≡ c.args.left.now.rows = c.deref.ensures.value ∙ ap (λ v. v.rows) c.left.view_is in
+    let r : c.deref-2.result.now ≡ c.args.right.now.rows = c.deref-2.ensures.value ∙ ap (λ v. v.rows) c.right.view_is in
+    let j = join_type op.f F op.op in
+    let p : Passed F olds nows (pairs_of j (typed F olds (shown c.args.left.now.rows)) 0 (typed F olds (shown c.args.right.now.rows))) [] c.add_pairs.new.rows.items c.args.room c.add_pairs.new.room =
+    subst (λ (rs : List Row). Passed F olds nows (pairs_of j (typed F olds (shown c.args.left.now.rows)) 0 (typed F olds (shown c.args.right.now.rows))) rs c.add_pairs.new.rows.items c.args.room c.add_pairs.new.room) c.new-rows.ensures.items
+    (subst (λ (rs : List Row). Passed F olds nows (pairs_of j (typed F olds (shown c.args.left.now.rows)) 0 (typed F olds (shown rs))) c.new-rows.result.items c.add_pairs.new.rows.items c.args.room c.add_pairs.new.room) r
+    (subst (λ (rs : List Row). Passed F olds nows (pairs_of j (typed F olds (shown rs)) 0 (typed F olds (shown c.deref-2.result.now))) c.new-rows.result.items c.add_pairs.new.rows.items c.args.room c.add_pairs.new.room) l c.in-Ok.ensures.passes)) in
+    made_rows F olds nows (pairs_of j (typed F olds (shown c.args.left.now.rows)) 0 (typed F olds (shown c.args.right.now.rows))) _ (of-types F olds j c.args.left.now.rows c.args.right.now.rows 0) c.args.room
+    (IsJoinRows (frame op.f F nows) op.op c.args.left.now c.args.right.now) _ c.add_pairs.new.room
+    (joins_rows F op olds nows c.args.left.now c.args.right.now _ c.requires.left.operands c.requires.right.operands c.args.room c.add_pairs.new.room p) p
+
+pub returns-in-Err-clause-makes : goal.returns-in-Err-clause-makes
+returns-in-Err-clause-makes g c = λ full.
+    let F = g.A.Automaton.shape c.args.automaton.now in
+    let olds = g.A.Automaton.lists c.args.automaton.now in
+    let op = c.args.op.now in
+    let l : c.deref.result.now ≡ c.args.left.now.rows = c.deref.ensures.value ∙ ap (λ v. v.rows) c.left.view_is in
+    let r : c.deref-2.result.now ≡ c.args.right.now.rows = c.deref-2.ensures.value ∙ ap (λ v. v.rows) c.right.view_is in
+    let j = join_type op.f F op.op in
+    too_many_rows F olds olds (pairs_of j (typed F olds (shown c.args.left.now.rows)) 0 (typed F olds (shown c.args.right.now.rows))) _ (of-types F olds j c.args.left.now.rows c.args.right.now.rows 0) c.args.room
+    (subst (λ (rs : List Row). AreTooMany F olds (pairs_of j (typed F olds (shown c.args.left.now.rows)) 0 (typed F olds (shown c.args.right.now.rows))) rs c.args.room) c.new-rows.ensures.items
+    (subst (λ (rs : List Row). AreTooMany F olds (pairs_of j (typed F olds (shown c.args.left.now.rows)) 0 (typed F olds (shown rs))) c.new-rows.result.items c.args.room) r
+    (subst (λ (rs : List Row). AreTooMany F olds (pairs_of j (typed F olds (shown rs)) 0 (typed F olds (shown c.deref-2.result.now))) c.new-rows.result.items c.args.room) l (c.in-Err.ensures.passes full))))

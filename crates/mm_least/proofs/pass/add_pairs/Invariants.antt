@@ -1,0 +1,14 @@
+use Rattle.std.proofs.Common.{◌≡◌, take}
+use Rattle.mm_logic.specs.JoinRule.{join_type}
+use Rattle.mm_least.specs.Rows.{shown}
+use Rattle.mm_least.specs.Candidates.{typed, pairs_of}
+use Rattle.mm_least.specs.Passes.{Passed}
+use Rattle.mm_least.proofs.pass.add_pairs.Given as goal
+
+abbrev pub invariant-loop-k : goal.invariant-loop-k
+invariant-loop-k g l =
+    (g.A.Automaton.shape l.automaton ≡ g.A.Automaton.shape l.fn.automaton) × (g.A.Automaton.field l.automaton ≡ g.A.Automaton.field l.fn.automaton)
+    × (g.A.Automaton.marked l.automaton ≡ g.A.Automaton.marked l.fn.automaton)
+    × Passed (g.A.Automaton.shape l.fn.automaton) (g.A.Automaton.lists l.fn.automaton) (g.A.Automaton.lists l.automaton)
+    (pairs_of (join_type l.fn.op.f (g.A.Automaton.shape l.fn.automaton) l.fn.op.op) (typed (g.A.Automaton.shape l.fn.automaton) (g.A.Automaton.lists l.fn.automaton) (shown (take l.k l.fn.left))) 0
+    (typed (g.A.Automaton.shape l.fn.automaton) (g.A.Automaton.lists l.fn.automaton) (shown l.fn.right))) l.fn.rows.items l.rows.items l.fn.room l.room

@@ -1,0 +1,71 @@
+use Rattle.std.proofs.Common.{◌≤◌, ◌+ℤ◌, pos, [], ◌∷◌, slice_index_or, nat_abs, refl, sym, ◌∙◌, subst}
+use Rattle.mm_field.specs.declared.Field.{Field}
+use Rattle.mm_logic.specs.Formula.{Formula}
+use Rattle.mm_states.specs.Calls.{CanJoin, IsOperand, value_of_join}
+use Rattle.mm_nodes.specs.Demands.{IsExact}
+use Rattle.mm_least.specs.declared.row.Row.{Row}
+use Rattle.mm_least.specs.declared.row.Origin.TheVariants.{Out, Pair}
+use Rattle.mm_least.specs.Candidates.{candidate}
+use Rattle.mm_least.specs.Passes.{Passed, AreTooMany, most_sum}
+use Rattle.mm_least.proofs.WalkLemmas.{passed_none, still_exact, begins, still_roomy, fit_at, operand_stays, with_step, with_full}
+use Rattle.mm_least.proofs.pass.add_pairs_with.Goals as goal
+
+abbrev none : Row
+none = record { id = 0; weight = pos 0; origin = Out }
+
+pub loop-k-init : goal.loop-k-init
+loop-k-init g c = (refl, refl, refl, passed_none _ _ c.args.rows.now.items c.args.room.now c.requires.exact c.requires.within)
+
+pub add_pair-requires-clause-can : goal.add_pair-requires-clause-can
+add_pair-requires-clause-can g c =
+    let p = c.loop-k.invariant.3 in
+    let F = g.A.Automaton.shape c.args.automaton.now in
+    let lists = g.A.Automaton.lists c.loop-k.automaton in
+    let op = c.args.op.now in
+    let b = begins F _ _ _ [] [] _ _ _ _ p in
+    subst (λ (G : Formula). CanJoin G (g.A.Automaton.field c.loop-k.automaton) lists op c.args.left.now.id (slice_index_or c.args.right.now c.loop-k.k none).id c.loop-k.room) (sym c.loop-k.invariant.0)
+    (subst (λ (h : Field). CanJoin F h lists op c.args.left.now.id (slice_index_or c.args.right.now c.loop-k.k none).id c.loop-k.room) (sym c.loop-k.invariant.1)
+    (record {
+      field = c.requires.over;
+      left_operand = operand_stays F op.f op.op.t1 _ _ c.args.left.now.id b c.requires.left;
+      right_operand = operand_stays F op.f op.op.t2 _ _ _ b (fit_at (λ q. IsOperand F op.f op.op.t2 (g.A.Automaton.lists c.args.automaton.now) q.0) c.args.right.now c.loop-k.k none c.requires.right c.loop-k-test.true);
+      roomy = still_roomy F _ _ _ [] [] _ _ _ _ p c.requires.roomy;
+    }))
+
+pub add_pair-requires-clause-exact : goal.add_pair-requires-clause-exact
+add_pair-requires-clause-exact g c =
+    subst (λ (G : Formula). IsExact G (g.A.Automaton.lists c.loop-k.automaton)) (sym c.loop-k.invariant.0) (still_exact _ _ _ _ [] [] _ _ _ _ c.loop-k.invariant.3 c.requires.exact)
+
+pub add_pair-requires-clause-right : goal.add_pair-requires-clause-right
+add_pair-requires-clause-right g c = fit_at (λ q. nat_abs q.1 ≤ most_sum) c.args.right.now c.loop-k.k none c.requires.right_light c.loop-k-test.true
+
+pub returns-in-Err-clause-passes : goal.returns-in-Err-clause-passes
+returns-in-Err-clause-passes g c = λ full.
+    let F = g.A.Automaton.shape c.args.automaton.now in
+    let op = c.args.op.now in
+    let olds = g.A.Automaton.lists c.args.automaton.now in
+    let lists = g.A.Automaton.lists c.loop-k.automaton in
+    let left = c.args.left.now in
+    let right = c.args.right.now in
+    with_full F op olds lists left c.args.place right c.loop-k.k none c.loop-k-test.true c.requires.left.within c.requires.right
+    c.args.rows.now.items c.loop-k.rows.items c.loop-k.rows.items c.args.room.now c.loop-k.room c.loop-k.room c.loop-k.invariant.3
+    (subst (λ (G : Formula). AreTooMany G lists (candidate (value_of_join G lists op left.id (slice_index_or right c.loop-k.k none).id) (left.weight +ℤ (slice_index_or right c.loop-k.k none).weight) (Pair c.args.place c.loop-k.k) ∷ []) c.loop-k.rows.items c.loop-k.room)
+    c.loop-k.invariant.0 (c.in-Err.ensures.passes full))
+
+pub loop-k-preserved : goal.loop-k-preserved
+loop-k-preserved g c =
+    let F = g.A.Automaton.shape c.args.automaton.now in
+    let op = c.args.op.now in
+    let olds = g.A.Automaton.lists c.args.automaton.now in
+    let lists = g.A.Automaton.lists c.loop-k.automaton in
+    let nows = g.A.Automaton.lists c.add_pair.new.automaton in
+    let left = c.args.left.now in
+    let right = c.args.right.now in (
+      c.in-Ok.ensures.shape ∙ c.loop-k.invariant.0,
+      c.in-Ok.ensures.field ∙ c.loop-k.invariant.1,
+      c.in-Ok.ensures.marked ∙ c.loop-k.invariant.2,
+      with_step F op olds lists left c.args.place right c.loop-k.k none c.loop-k-test.true c.requires.left.within c.requires.right
+          c.args.rows.now.items c.loop-k.rows.items c.add_pair.new.rows.items c.args.room.now c.loop-k.room c.add_pair.new.room c.loop-k.invariant.3 nows
+          (subst (λ (G : Formula). Passed G lists nows (candidate (value_of_join G lists op left.id (slice_index_or right c.loop-k.k none).id) (left.weight +ℤ (slice_index_or right c.loop-k.k none).weight) (Pair c.args.place c.loop-k.k) ∷ []) c.loop-k.rows.items c.add_pair.new.rows.items c.loop-k.room c.add_pair.new.room)
+          c.loop-k.invariant.0 c.in-Ok.ensures.passes),
+    )

@@ -1,0 +1,12 @@
+//! Least sets: one row for each type at a node, with the first set of that type by weight and then by leaf word.
+#![tactic(auto)]
+
+mod least;
+mod node_rows;
+mod pass;
+mod row;
+
+pub use least::Least;
+pub use mm_nodes::KeepFault as LeastFault;
+pub use node_rows::NodeRows;
+pub use row::{Origin, Row};

@@ -1,0 +1,201 @@
+//! The rows of one node.
+
+ghost use Rattle.std.specs.Prelude.{◌≡◌, ◌<◌, ◌≤◌, ◌+◌, ℕ, List, [], ◌∷◌, length, true, refl};
+ghost use Rattle.mm_logic.specs.Formula.{Formula};
+ghost use Rattle.mm_logic.specs.Operator.{Op};
+ghost use Rattle.mm_logic.specs.Value.{Value};
+ghost use Rattle.mm_logic.specs.StateSize.{Query};
+ghost use Rattle.mm_logic.specs.StateSize.Query.{Least};
+ghost use Rattle.mm_logic.specs.JoinRule.{all_pairs, join_type};
+ghost use Rattle.mm_logic_laws.specs.ValueLaws.{types_by_rules};
+ghost use Rattle.mm_states.specs.Letters as letters;
+ghost use Rattle.mm_states.specs.Calls.{IsRoomy};
+ghost use Rattle.mm_tree.specs.NamedTree.{Tree, shape};
+ghost use Rattle.mm_tree.specs.Nodes.{named_leaf};
+ghost use Rattle.mm_nodes.specs.Demands.{Frame, IsExact, frame};
+ghost use Rattle.mm_nodes.specs.Calls.{CanMakeLeaf};
+ghost use Rattle.mm_least.specs.Rows.{shown};
+ghost use Rattle.mm_least.specs.RowLaws.{ShowSame, asks, leaf_has, join_has, fits, leaf_stays, join_stays};
+ghost use Rattle.mm_least.specs.RowLaws.{same_left, same_right, same_itself};
+ghost use Rattle.mm_least.specs.RowCalls.{IsLeafRows, IsJoinRows, CanBeJoined, MakesRows, row_types, element_name};
+
+use crate::pass::{add_leaf, add_pairs};
+use crate::row::show_same;
+use crate::{LeastFault, Row};
+use mm_base::{Name, Steps};
+use mm_nodes::Keeps;
+use mm_ops::Op;
+use mm_states::Automaton;
+use mm_tree::Leaf;
+use std::alloc::Global;
+use std::marker::Model;
+use std::sync::ledger::Ledger;
+
+/// One row for each type at a node, in the order of the leaf words of their sets; and the name of the element of a leaf. It is made for a
+/// node, with one step, and never copied.
+#[derive(Drop)]
+pub struct NodeRows {
+    name: Option<Name>,
+    rows: Vec<Row>,
+}
+
+impl Model for NodeRows {
+    ghost use Rattle.std.specs.Prelude.{ℕ, ◌<◌, length};
+    ghost use Rattle.mm_least.specs.NodeRowsValue.{NodeValue, node_code};
+
+    ghost Value = { NodeValue };
+
+    ghost coded = { node_code };
+
+    ghost view = { λ s. record { name = s.name; rows = s.rows.items } };
+
+    ghost invariant = { λ s. length s.rows.items < 4294967296 };
+}
+
+impl NodeRows {
+    /// The rows of a leaf. `Full` exactly where the missing cells and the rows exceed the room.
+    pub fn leaf<A: Automaton, L: Ledger>(
+        alloc: Global,
+        automaton: &mut A,
+        leaf: &Leaf,
+        room: u64,
+        steps: &mut Steps<L>,
+    ) -> Result<NodeRows, LeastFault>
+        requires leaf { CanMakeLeaf (A.shape automaton.old) (A.field automaton.old) (A.lists automaton.old) leaf.now room }
+        requires exact { IsExact (A.shape automaton.old) (A.lists automaton.old) }
+        ensures shape { A.shape automaton.new ≡ A.shape automaton.old }
+        ensures field { A.field automaton.new ≡ A.field automaton.old }
+        ensures marked { A.marked automaton.new ≡ A.marked automaton.old }
+        ensures tick { steps.new ≡ steps.old + 1 }
+        ensures makes { MakesRows (A.shape automaton.old) (A.lists automaton.old) (A.lists automaton.new)
+            (IsLeafRows (frame leaf.now.field (A.shape automaton.old) (A.lists automaton.new)) (named_leaf leaf.now))
+            (types_by_rules leaf.now.field (Least (A.shape automaton.old)) (shape (named_leaf leaf.now))) room result }
+    {
+        steps.tick();
+        let mut rows = Vec::new(alloc);
+        let mut left = room;
+        match add_leaf(alloc, automaton, leaf, &mut rows, &mut left) {
+            Ok(()) => Ok(NodeRows {
+                name: name_of(leaf),
+                rows,
+            }),
+            Err(fault) => Err(fault),
+        }
+    }
+
+    /// The rows of a join. `Full` exactly where the missing cells and the rows exceed the room.
+    pub fn join<A: Automaton, L: Ledger>(
+        alloc: Global,
+        automaton: &mut A,
+        op: &Op,
+        left: &NodeRows,
+        right: &NodeRows,
+        room: u64,
+        steps: &mut Steps<L>,
+    ) -> Result<NodeRows, LeastFault>
+        requires over { letters.IsOver (A.shape automaton.old) (A.field automaton.old) op.now.f }
+        requires left { CanBeJoined (frame op.now.f (A.shape automaton.old) (A.lists automaton.old)) op.now.op.t1 left.now }
+        requires right { CanBeJoined (frame op.now.f (A.shape automaton.old) (A.lists automaton.old)) op.now.op.t2 right.now }
+        requires roomy { IsRoomy (A.shape automaton.old) (A.lists automaton.old) room }
+        requires exact { IsExact (A.shape automaton.old) (A.lists automaton.old) }
+        ensures shape { A.shape automaton.new ≡ A.shape automaton.old }
+        ensures field { A.field automaton.new ≡ A.field automaton.old }
+        ensures marked { A.marked automaton.new ≡ A.marked automaton.old }
+        ensures tick { steps.new ≡ steps.old + 1 }
+        ensures makes { MakesRows (A.shape automaton.old) (A.lists automaton.old) (A.lists automaton.new)
+            (IsJoinRows (frame op.now.f (A.shape automaton.old) (A.lists automaton.new)) op.now.op left.now right.now)
+            (all_pairs (join_type op.now.f (A.shape automaton.old) op.now.op)
+            (row_types (frame op.now.f (A.shape automaton.old) (A.lists automaton.old)) left.now)
+            (row_types (frame op.now.f (A.shape automaton.old) (A.lists automaton.old)) right.now)) room result }
+    {
+        steps.tick();
+        let mut rows = Vec::new(alloc);
+        let mut rest = room;
+        match add_pairs(
+            alloc,
+            automaton,
+            op,
+            &left.rows,
+            &right.rows,
+            &mut rows,
+            &mut rest,
+        ) {
+            Ok(()) => Ok(NodeRows { name: None, rows }),
+            Err(fault) => Err(fault),
+        }
+    }
+}
+
+impl Keeps for NodeRows {
+    ghost query = { Least };
+
+    ghost types = { row_types };
+
+    ghost rows = { λ n. length n.rows };
+
+    ghost IsLeaf = { IsLeafRows };
+
+    ghost IsJoin = { IsJoinRows };
+
+    ghost Same = { ShowSame };
+
+    ghost Fits = { CanBeJoined };
+
+    fn leaf<A: Automaton, L: Ledger>(
+        alloc: Global,
+        automaton: &mut A,
+        leaf: &Leaf,
+        room: u64,
+        steps: &mut Steps<L>,
+    ) -> Result<NodeRows, LeastFault> {
+        NodeRows::leaf(alloc, automaton, leaf, room, steps)
+    }
+
+    fn join<A: Automaton, L: Ledger>(
+        alloc: Global,
+        automaton: &mut A,
+        op: &Op,
+        left: &NodeRows,
+        right: &NodeRows,
+        room: u64,
+        steps: &mut Steps<L>,
+    ) -> Result<NodeRows, LeastFault> {
+        NodeRows::join(alloc, automaton, op, left, right, room, steps)
+    }
+
+    fn row_count(&self) -> u32 {
+        self.rows.len() as u32
+    }
+
+    fn looks_same(&self, other: &NodeRows) -> bool {
+        show_same(&self.rows, &other.rows)
+    }
+
+    ghost asks = { asks };
+
+    ghost leaf_has = { leaf_has };
+
+    ghost join_has = { join_has };
+
+    ghost fits = { fits };
+
+    ghost leaf_stays = { leaf_stays };
+
+    ghost join_stays = { join_stays };
+
+    ghost same_left = { same_left };
+
+    ghost same_right = { same_right };
+
+    ghost same_itself = { same_itself };
+}
+
+/// The name of the element of a leaf.
+fn name_of(leaf: &Leaf) -> Option<Name>
+    ensures { result ≡ element_name (named_leaf leaf.now) }
+{
+    match leaf.item {
+        Some(_) => Some(leaf.name),
+        None => None,
+    }
+}
