@@ -1,5 +1,5 @@
 -- The formulas that the parts of a machine stand for, and what they accept.
-use Rattle.std.specs.Prelude.{ℕ, Bool, false, List, [], ◌∷◌, drop}
+use Rattle.std.specs.Prelude.{ℕ, Bool, false, List, [], ◌∷◌, drop, map}
 use Rattle.std.specs.List.{list_any, list_all}
 use Rattle.mm_logic.specs.Formula.{Formula, Formula as formula}
 use Rattle.mm_logic.specs.Acceptance.{accepts}
@@ -8,6 +8,7 @@ use Rattle.mm_formula.specs.declared.formula.Connective.TheVariants as named
 use Rattle.mm_formula.specs.Scope.{connective}
 use Rattle.mm_base_auto.specs.OneAtom.{atom_shape}
 use Rattle.mm_machine.specs.declared.part.Part.{Part}
+use Rattle.mm_machine.specs.declared.part.Parts.{Parts}
 use Rattle.mm_machine.specs.declared.part.Node.{Node}
 use Rattle.mm_machine.specs.declared.part.Node.TheVariants as node
 use Rattle.mm_machine.specs.declared.part.Quantifier.{Quantifier}
@@ -35,6 +36,14 @@ node_shape node.Not Fs = formula.Not (head_shape Fs)
 node_shape (node.Pair o t skip) Fs = formula.Bin (connective o) (head_shape Fs) (head_shape (drop skip Fs))
 node_shape (node.Set q k t) Fs = over_sets q k.number (head_shape Fs)
 node_shape (node.One q k t) Fs = over_elements q k.number (head_shape Fs)
+
+-- what a part makes of the formulas of the parts after it
+abbrev pub sign : Part → List Formula → Formula
+sign p = node_shape p.node
+
+-- what the parts make of those after them, which no call changes
+abbrev pub signs : Parts → List (List Formula → Formula)
+signs ps = map sign ps.list.items
 
 abbrev pub shapes : List Part → List Formula
 shapes [] = []

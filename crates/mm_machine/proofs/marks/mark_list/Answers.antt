@@ -1,12 +1,14 @@
 use Rattle.std.proofs.Common.{◌<◌, length, refl, ap, ◌∙◌, arith}
 use Rattle.std.proofs.lemmas.List.{length-set}
+use Rattle.mm_machine.specs.Shapes.{sign}
 use Rattle.mm_machine.specs.Blocks.{block_of, cut_of}
 use Rattle.mm_machine.specs.Remembers.{bare}
+use Rattle.mm_machine.proofs.BlockLemmas.{stays_at}
 use Rattle.mm_machine.proofs.MarkLemmas.{mark_step, mark_end, blocks_at}
 use Rattle.mm_machine.proofs.marks.mark_list.Goals as goal
 
 pub loop-i-init : goal.loop-i-init
-loop-i-init c = ((λ ops. (refl, refl)), refl)
+loop-i-init c = ((λ ops. (refl, refl)), refl, refl)
 
 pub loop-i-preserved : goal.loop-i-preserved
 loop-i-preserved c =
@@ -19,6 +21,7 @@ loop-i-preserved c =
         mark_step ops c.args.list.now.items l.items c.loop-i.i d c.mark_part.new.part w (c.loop-i.invariant.0 ops).0 (c.loop-i.invariant.0 ops).1 (c.mark_part.ensures.cut ops ∙ ap (λ z. bare (block_of ops z)) e),
       )),
       length-set l.items c.loop-i.i c.mark_part.new.part ∙ c.loop-i.invariant.1,
+      stays_at sign l.items c.loop-i.i d c.mark_part.new.part w (c.mark_part.ensures.sign ∙ ap sign e) ∙ c.loop-i.invariant.2,
     )
 
 pub returns-clause-cuts : goal.returns-clause-cuts
