@@ -34,7 +34,7 @@ plain_own (AllSet k F) v = refl
 plain_own (ExElem k F) v = refl
 plain_own (AllElem k F) v = refl
 
-plain_nodes : (F : Formula) → nodes (plain F) ≡ map plain (nodes F)
+pub plain_nodes : (F : Formula) → nodes (plain F) ≡ map plain (nodes F)
 plain_nodes (Const b) = refl
 plain_nodes (Ind u) = refl
 plain_nodes (Member x a) = refl
