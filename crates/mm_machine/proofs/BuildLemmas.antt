@@ -309,3 +309,11 @@ pub push_pair : {X E : Type 0} (f : Field) (olds lows mids news : List Part) (r 
     → Built f H (reverse olds) (reverse lows) → Built f G (reverse lows) (reverse mids) → OnOk r (Pushes (node.Pair o t skip) mids news) → OnOk r (Built f (Bin (connective o) G H) (reverse olds) (reverse news))
 push_pair f olds lows mids news r o t skip G H e new low mid h =
     put_on f olds mids news r (node.Pair o t skip) (Bin (connective o) G H) (reverse olds) (λ p at m. pair_built f o skip G H (reverse olds) (reverse lows) (reverse mids) p e (at ∙ ap (λ z. node.Pair o z skip) new) m low mid) h
+
+pub some_is : (sets : Bool) (k : ℕ) (G : Formula) → quantified Ex sets k G ≡ (if sets then ExSet k G else ExElem k G)
+some_is true k G = refl
+some_is false k G = refl
+
+pub each_is : (sets : Bool) (k : ℕ) (G : Formula) → quantified All sets k G ≡ (if sets then AllSet k G else AllElem k G)
+each_is true k G = refl
+each_is false k G = refl
