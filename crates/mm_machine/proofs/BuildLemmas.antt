@@ -1,12 +1,17 @@
 -- Parts put before others make the parts of a larger formula.
 use Rattle.std.proofs.Common.{◌≡◌, ◌<◌, ◌≤◌, ◌+◌, ◌++◌, ◌||◌, ℕ, suc, zero, Bool, true, false, List, [], ◌∷◌, map, length, take, drop, reverse, Option, Some, None, Result, Ok, Err, OnOk, refl, sym, ap, ◌∙◌, subst, arith, if◌then◌else◌}
-use Rattle.std.proofs.lemmas.List.{length-map, length-append, reverse-append, drop-drop}
+use Rattle.std.proofs.lemmas.List.{length-map, length-append, reverse-append, drop-drop, take_all, length-take}
 use Rattle.mm_field.specs.declared.Field.{Field}
 use Rattle.mm_logic.specs.Formula.{Formula, Connective}
 use Rattle.mm_logic.specs.Formula.Formula.{Const, Ind, Member, SameElem, Sub, SameSet, Not, Bin, ExSet, AllSet, ExElem, AllElem}
 use Rattle.mm_logic.specs.Occurrence.{nodes}
 use Rattle.mm_formula.specs.declared.formula.Connective.{Connective as Named}
-use Rattle.mm_formula.specs.Scope.{connective}
+use Rattle.mm_formula.specs.Scope.{connective, slotted}
+use Rattle.mm_formula.specs.Syntax.{Syntax, Syntax as syntax, nodes as syntax_nodes}
+use Rattle.mm_formula.specs.Variables.{is_set}
+use Rattle.mm_logic.specs.Growth.{no_values}
+use Rattle.mm_machine.specs.declared.part.Parts.{Parts}
+use Rattle.mm_machine.specs.Sound.{IsHeld}
 use Rattle.mm_combine.specs.Marked.{Pairs}
 use Rattle.mm_states.specs.Lists.{AllFit}
 use Rattle.mm_states.specs.Letters.{has_ind}
@@ -23,17 +28,17 @@ use Rattle.mm_machine.specs.declared.part.Quantifier.{Quantifier}
 use Rattle.mm_machine.specs.declared.part.Quantifier.TheVariants.{Ex, All}
 use Rattle.mm_machine.specs.declared.slots.Slot.{Slot}
 use Rattle.mm_machine.specs.Plain.{plain}
-use Rattle.mm_machine.specs.Parts.{Block, Memory, nothing, View, head_formula, view_of, views, Apart, Keys, IsTrue, memo_of, IsFormulaOver, IsSoundPart, IsSound}
-use Rattle.mm_machine.specs.Blocks.{node_block, node_cut, memory, no_memory, block_of, cut_of, blocks_of, cuts_of}
+use Rattle.mm_machine.specs.Parts.{lists, Block, Memory, nothing, View, head_formula, view_of, views, Apart, Keys, IsTrue, memo_of, IsFormulaOver, IsSoundPart, IsSound}
+use Rattle.mm_machine.specs.Blocks.{node_block, node_cut, memory, no_memory, block_of, cut_of, blocks_of, cuts_of, blocks, cuts}
 use Rattle.mm_machine.specs.Empties.{emptied}
 use Rattle.mm_machine.specs.Shapes.{head_shape, shapes, node_shape, over_sets, over_elements}
-use Rattle.mm_machine.specs.Machines.{IsIndOf, IsPartOf}
+use Rattle.mm_machine.specs.Machines.{IsIndOf, IsPartOf, IsMachine, shape_in, lists_in, marked_in}
 use Rattle.mm_machine.specs.Builds.{IsNewAtom, IsNewQuantifier, Pushes, AreNew, Built}
 use Rattle.mm_machine.proofs.PartLemmas.{length-views, views-drop}
 use Rattle.mm_machine.proofs.DoneLemmas.{atomic_nodes}
 use Rattle.mm_machine.proofs.PlainLemmas.{plain_nodes}
-use Rattle.mm_machine.proofs.EmptyLemmas.{new_memory, no_list}
-use Rattle.mm_machine.proofs.MachineLemmas.{plain_list}
+use Rattle.mm_machine.proofs.EmptyLemmas.{new_memory, no_list, no_lists}
+use Rattle.mm_machine.proofs.MachineLemmas.{plain_list, held_of}
 
 -- ---- counts of nodes
 
@@ -317,3 +322,67 @@ some_is false k G = refl
 pub each_is : (sets : Bool) (k : ℕ) (G : Formula) → quantified All sets k G ≡ (if sets then AllSet k G else AllElem k G)
 each_is true k G = refl
 each_is false k G = refl
+
+-- ---- the nodes of a formula with variables
+
+count_if : (s : Bool) (G H : Formula) (n : ℕ) → length (nodes G) ≡ n → length (nodes H) ≡ n → length (nodes (if s then G else H)) ≡ n
+count_if true G H n g h = g
+count_if false G H n g h = h
+
+slotted_count : (bs : List (List ℕ)) (F : Syntax) → length (nodes (slotted bs F)) ≡ syntax_nodes F
+slotted_count bs (syntax.Const b) = refl
+slotted_count bs (syntax.Ind t) = refl
+slotted_count bs (syntax.Member x a) = refl
+slotted_count bs (syntax.SameElem x y) = refl
+slotted_count bs (syntax.Sub a b) = refl
+slotted_count bs (syntax.SameSet a b) = refl
+slotted_count bs (syntax.Not F) = omega (arith, slotted_count bs F)
+slotted_count bs (syntax.Bin c F G) = omega (arith, slotted_count bs F, slotted_count bs G, length-append (nodes (slotted bs F)) (nodes (slotted bs G)))
+slotted_count bs (syntax.Ex v F) = count_if (is_set v) (ExSet (length bs) (slotted (v ∷ bs) F)) (ExElem (length bs) (slotted (v ∷ bs) F)) (1 + syntax_nodes F) (omega (arith, slotted_count (v ∷ bs) F)) (omega (arith, slotted_count (v ∷ bs) F))
+slotted_count bs (syntax.All v F) = count_if (is_set v) (AllSet (length bs) (slotted (v ∷ bs) F)) (AllElem (length bs) (slotted (v ∷ bs) F)) (1 + syntax_nodes F) (omega (arith, slotted_count (v ∷ bs) F)) (omega (arith, slotted_count (v ∷ bs) F))
+
+pub short_front : (n : ℕ) (ps : List Part) → n ≤ 512 → length (take n ps) ≤ 512
+short_front n ps l = omega (arith, l, length-take n ps)
+
+pub built_size : (f : Field) (bs : List (List ℕ)) (F : Syntax) (ps : List Part) → syntax_nodes F ≤ 512 → Built f (slotted bs F) [] ps → length ps ≤ 512
+built_size f bs F ps n b = omega (arith, n, b.long, slotted_count bs F)
+
+-- ---- the parts of a whole formula
+
+module _ (qs : Parts) (f : Field) (F : Formula) (o : qs.ops ≡ []) (size : length qs.list.items ≤ 512) (b : Built f F [] qs.list.items) where
+  all_new : AreNew qs.list.items
+  all_new = b.new (record { blocks = refl; cuts = refl })
+
+  no_ops : blocks qs ≡ blocks_of [] qs.list.items
+  no_ops = ap (λ z. blocks_of z qs.list.items) o
+
+  no_ops_cut : cuts qs ≡ blocks_of [] qs.list.items
+  no_ops_cut = ap (λ z. cuts_of z qs.list.items) o ∙ all_new.cuts
+
+  built_held : IsHeld (blocks_of [] qs.list.items)
+  built_held = held_of (blocks_of [] qs.list.items) (b.sound tt)
+
+  built_long : length qs.list.items ≡ length (nodes (shape_in qs))
+  built_long = omega (arith, b.long, ap (λ G. length (nodes G)) b.shape)
+
+  pub built_machine : IsMachine qs f
+  built_machine = record {
+    some = omega (arith, built_long, nodes_some (shape_in qs));
+    size = size;
+    few = omega (arith, ap length o);
+    held = subst IsHeld (sym no_ops) built_held;
+    marked = subst IsHeld (sym no_ops_cut) built_held;
+    whole = built_long;
+    over = subst (λ G. AllFit (IsPartOf G f) (views (blocks qs))) (sym b.shape)
+        (subst (λ bs. AllFit (IsPartOf F f) (views bs)) (sym no_ops)
+        (subst (AllFit (IsPartOf F f)) (take_all (length (nodes F)) (views (blocks_of [] qs.list.items)) (omega (arith, b.long, long_views qs.list.items))) b.over));
+  }
+
+  built_none : lists (views (blocks_of [] qs.list.items)) ≡ no_values (shape_in qs)
+  built_none = ap (λ bs. lists (views bs)) all_new.blocks ∙ no_lists (blocks_of [] qs.list.items) (nodes (shape_in qs)) (length-map qs.list.items (block_of []) ∙ built_long)
+
+  pub built_lists : lists_in qs ≡ no_values (shape_in qs)
+  built_lists = ap (λ bs. lists (views bs)) no_ops ∙ built_none
+
+  pub built_marked : marked_in qs ≡ no_values (shape_in qs)
+  built_marked = ap (λ bs. lists (views bs)) no_ops_cut ∙ built_none

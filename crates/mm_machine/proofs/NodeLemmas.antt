@@ -127,7 +127,7 @@ more_sound : (ops : List OpValue) (op : OpValue) (ps : List Part) → IsSound (b
 more_sound ops op [] s = tt
 more_sound ops op (p ∷ ps) s = (
   subst (IsSoundPart (block_of (ops ++ op ∷ []) p)) (views_stay (ops ++ op ∷ []) ops ps ps refl)
-  (sound_part p.node (memory ops p.memo) (memory (ops ++ op ∷ []) p.memo) (views (blocks_of ops ps)) (more_better ops op (joins_answer p.memo)) s.0),
+      (sound_part p.node (memory ops p.memo) (memory (ops ++ op ∷ []) p.memo) (views (blocks_of ops ps)) (more_better ops op (joins_answer p.memo)) s.0),
   more_sound ops op ps s.1,
 )
 
@@ -147,8 +147,8 @@ forgotten_sound ops pos [] (q ∷ qs) e g s = absurd (omega (arith, ap length e)
 forgotten_sound ops pos (p ∷ ps) (q ∷ qs) e g s =
     let same : map node_of qs ≡ map node_of ps = ap tail_of e in (
       subst (IsSoundPart (block_of pos q)) (sym (views_stay ops pos ps qs same))
-      (subst (λ n. IsSoundPart (node_block n (memory pos q.memo)) (views (blocks_of ops ps))) (sym (ap (head_or p.node) e))
-      (sound_part p.node (memory ops p.memo) (memory pos q.memo) (views (blocks_of ops ps)) (none_better (memory ops p.memo) (memory pos q.memo) g.0) s.0)),
+          (subst (λ n. IsSoundPart (node_block n (memory pos q.memo)) (views (blocks_of ops ps))) (sym (ap (head_or p.node) e))
+          (sound_part p.node (memory ops p.memo) (memory pos q.memo) (views (blocks_of ops ps)) (none_better (memory ops p.memo) (memory pos q.memo) g.0) s.0)),
       forgotten_sound ops pos ps qs same g.1 s.1,
     )
 
@@ -160,8 +160,8 @@ cuts_sound ops pos [] (q ∷ qs) e s = absurd (omega (arith, ap length e))
 cuts_sound ops pos (p ∷ ps) (q ∷ qs) e s =
     let same : map node_of qs ≡ map node_of ps = ap tail_of e in (
       subst (IsSoundPart (cut_of pos q)) (sym (cut_views_stay ops pos ps qs same))
-      (subst (λ n. IsSoundPart (node_cut n (no_memory pos)) (views (cuts_of ops ps))) (sym (ap (head_or p.node) e))
-      (cut_part p.node (no_memory ops) (no_memory pos) (views (cuts_of ops ps)) (none_better (no_memory ops) (no_memory pos) refl) s.0)),
+          (subst (λ n. IsSoundPart (node_cut n (no_memory pos)) (views (cuts_of ops ps))) (sym (ap (head_or p.node) e))
+          (cut_part p.node (no_memory ops) (no_memory pos) (views (cuts_of ops ps)) (none_better (no_memory ops) (no_memory pos) refl) s.0)),
       cuts_sound ops pos ps qs same s.1,
     )
 

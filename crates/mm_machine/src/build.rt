@@ -2,7 +2,7 @@
 
 ghost use Rattle.std.specs.Prelude.{◌≡◌, ◌≤◌, ◌+◌, length, reverse, OnOk, IfOk, [], true};
 ghost use Rattle.mm_formula.specs.Scope.{depth, outermost, slotted};
-ghost use Rattle.mm_formula.specs.Syntax.{syntax_of, Syntax as syntax};
+ghost use Rattle.mm_formula.specs.Syntax.{syntax_of, nodes, Syntax as syntax};
 ghost use Rattle.mm_formula.specs.Variables.{is_set};
 ghost use Rattle.mm_base_auto.specs.OneAtom.{atom_shape};
 ghost use Rattle.mm_base_auto.specs.declared.atom.Atom.TheVariants as atom;
@@ -129,7 +129,8 @@ fn push_scoped(
     scoped: &Scoped,
     list: &mut Vec<Part>,
 ) -> Result<(), NoMemory>
-    ensures { OnOk result (Built f (slotted (outermost scoped.now.free) (syntax_of scoped.now.formula)) (reverse list.old.items) (reverse list.new.items)) }
+    ensures size { nodes (syntax_of scoped.now.formula) ≤ 512 }
+    ensures built { OnOk result (Built f (slotted (outermost scoped.now.free) (syntax_of scoped.now.formula)) (reverse list.old.items) (reverse list.new.items)) }
 {
     let formula = scoped.formula();
     let none = Binders::Outermost;
@@ -141,7 +142,8 @@ fn push_scoped(
 
 /// The parts of a scoped formula, without values.
 pub(crate) fn parts_of(alloc: Global, f: Field, scoped: &Scoped) -> Result<Vec<Part>, NoMemory>
-    ensures { IfOk result (λ ps. Built f (slotted (outermost scoped.now.free) (syntax_of scoped.now.formula)) [] ps.items) }
+    ensures size { IfOk result (λ ps. length ps.items ≤ 512) }
+    ensures built { IfOk result (λ ps. Built f (slotted (outermost scoped.now.free) (syntax_of scoped.now.formula)) [] ps.items) }
 {
     let mut list = Vec::new(alloc);
     push_scoped(alloc, f, scoped, &mut list)?;

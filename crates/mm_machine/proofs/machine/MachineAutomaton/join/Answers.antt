@@ -22,8 +22,8 @@ join_at-requires-clause-can c = join_can c.args.self.now.parts c.number_of.new.p
 pub invariant_of-self-2 : goal.invariant_of-self-2
 invariant_of-self-2 c = record {
   valid = done_machine c.number_of.new.parts c.join_at.new.parts c.args.self.now.field
-    (keeps_machine c.args.self.now.parts c.number_of.new.parts c.number_of.ensures.keeps c.args.self.now.field c.number_of.ensures.few c.args.self.now.valid)
-    c.join_at.ensures.signs (omega (arith, ap length c.join_at.ensures.ops, c.number_of.ensures.few)) _ c.args.room c.join_at.new.room c.join_at.result c.join_at.ensures.done c.join_at.ensures.cuts;
+      (keeps_machine c.args.self.now.parts c.number_of.new.parts c.number_of.ensures.keeps c.args.self.now.field c.number_of.ensures.few c.args.self.now.valid)
+      c.join_at.ensures.signs (omega (arith, ap length c.join_at.ensures.ops, c.number_of.ensures.few)) _ c.args.room c.join_at.new.room c.join_at.result c.join_at.ensures.done c.join_at.ensures.cuts;
 }
 
 pub returns-clause-shape : goal.returns-clause-shape
