@@ -1,10 +1,10 @@
 -- What the formula of a part accepts, by what those of the parts after it accept.
-use Rattle.std.proofs.Common.{◌≡◌, ◌<◌, ◌+◌, ℕ, suc, zero, Bool, true, false, not, List, [], ◌∷◌, map, length, drop, get_or, slice_get, Some, add-one, refl, sym, ap, ◌∙◌, subst, arith}
+use Rattle.std.proofs.Common.{◌≡◌, ◌<◌, ◌+◌, ℕ, suc, zero, not, List, [], ◌∷◌, map, length, drop, get_or, slice_get, Some, add-one, refl, sym, ap, ◌∙◌, subst, arith}
 use Rattle.std.specs.List.{list_any, list_all}
 use Rattle.std.proofs.lemmas.List.{drop-drop}
 use Rattle.mm_logic.specs.Formula.{Formula, Connective, connect}
-use Rattle.mm_logic.specs.Formula.Formula.{Not, Bin, ExSet, AllSet, ExElem, AllElem}
-use Rattle.mm_logic.specs.Value.{Value, members, collected}
+use Rattle.mm_logic.specs.Formula.Formula.{Not, Bin}
+use Rattle.mm_logic.specs.Value.{members, collected}
 use Rattle.mm_logic.specs.Acceptance.{accepts}
 use Rattle.mm_logic.proofs.ValueLemmas.{list_any-collected}
 use Rattle.mm_logic.proofs.SetLemmas.{list_any-map, list_all-any}
@@ -15,7 +15,7 @@ use Rattle.mm_machine.specs.declared.part.Node.{Node}
 use Rattle.mm_machine.specs.declared.part.Node.TheVariants as node
 use Rattle.mm_machine.specs.declared.part.Quantifier.{Quantifier}
 use Rattle.mm_machine.specs.declared.part.Quantifier.TheVariants.{Ex, All}
-use Rattle.mm_machine.specs.Parts.{Block, Table, Kind, Memory, View, head_formula, type_in, set_value, one_value, view_of, views, IsKindOf, Begins, pairs_in, sets_in, ones_in}
+use Rattle.mm_machine.specs.Parts.{Block, Table, Kind, View, head_formula, type_in, set_value, one_value, view_of, views, IsKindOf, Begins, pairs_in, sets_in, ones_in}
 use Rattle.mm_machine.specs.Blocks.{node_block, memory, block_of, blocks_of}
 use Rattle.mm_machine.specs.Shapes.{head_shape, over_sets, over_elements, node_shape, shapes, quantified, node_connective, node_quantifier}
 use Rattle.mm_machine.proofs.PartLemmas.{views-drop}

@@ -1,8 +1,8 @@
 -- Parts put before others make the parts of a larger formula.
-use Rattle.std.proofs.Common.{◌≡◌, ◌<◌, ◌≤◌, ◌+◌, ◌++◌, ◌||◌, ℕ, suc, zero, Bool, true, false, List, [], ◌∷◌, map, length, take, drop, reverse, Option, Some, None, Result, Ok, Err, OnOk, refl, sym, ap, ◌∙◌, subst, arith, if◌then◌else◌}
+use Rattle.std.proofs.Common.{◌≡◌, ◌<◌, ◌≤◌, ◌+◌, ◌++◌, ◌||◌, ℕ, suc, zero, Bool, true, false, List, [], ◌∷◌, length, take, drop, reverse, Some, None, Result, Ok, Err, OnOk, refl, sym, ap, ◌∙◌, subst, arith, if◌then◌else◌}
 use Rattle.std.proofs.lemmas.List.{length-map, length-append, reverse-append, drop-drop, take_all, length-take}
 use Rattle.mm_field.specs.declared.Field.{Field}
-use Rattle.mm_logic.specs.Formula.{Formula, Connective}
+use Rattle.mm_logic.specs.Formula.{Formula}
 use Rattle.mm_logic.specs.Formula.Formula.{Const, Ind, Member, SameElem, Sub, SameSet, Not, Bin, ExSet, AllSet, ExElem, AllElem}
 use Rattle.mm_logic.specs.Occurrence.{nodes}
 use Rattle.mm_formula.specs.declared.formula.Connective.{Connective as Named}
@@ -28,8 +28,8 @@ use Rattle.mm_machine.specs.declared.part.Quantifier.{Quantifier}
 use Rattle.mm_machine.specs.declared.part.Quantifier.TheVariants.{Ex, All}
 use Rattle.mm_machine.specs.declared.slots.Slot.{Slot}
 use Rattle.mm_machine.specs.Plain.{plain}
-use Rattle.mm_machine.specs.Parts.{lists, Block, Memory, nothing, View, head_formula, view_of, views, Apart, Keys, IsTrue, memo_of, IsFormulaOver, IsSoundPart, IsSound}
-use Rattle.mm_machine.specs.Blocks.{node_block, node_cut, memory, no_memory, block_of, cut_of, blocks_of, cuts_of, blocks, cuts}
+use Rattle.mm_machine.specs.Parts.{lists, Block, nothing, View, head_formula, view_of, views, Apart, Keys, IsTrue, memo_of, IsFormulaOver, IsSoundPart, IsSound}
+use Rattle.mm_machine.specs.Blocks.{node_block, node_cut, memory, block_of, cut_of, blocks_of, cuts_of, blocks, cuts}
 use Rattle.mm_machine.specs.Empties.{emptied}
 use Rattle.mm_machine.specs.Shapes.{head_shape, shapes, node_shape, over_sets, over_elements}
 use Rattle.mm_machine.specs.Machines.{IsIndOf, IsPartOf, IsMachine, shape_in, lists_in, marked_in}

@@ -1,5 +1,5 @@
 -- What the nodes of parts tell, whatever is remembered beside them: formulas, values, and soundness with other memories.
-use Rattle.std.proofs.Common.{◌≡◌, ◌<◌, ◌≤◌, ℕ, suc, zero, List, [], ◌∷◌, ◌++◌, map, length, take, get_or, slice_get, slice_set, add-one, ◌+◌, Option, Some, None, refl, sym, ap, ◌∙◌, subst, arith}
+use Rattle.std.proofs.Common.{◌≡◌, ◌<◌, ◌≤◌, ℕ, suc, zero, List, [], ◌∷◌, ◌++◌, map, length, take, slice_get, slice_set, add-one, ◌+◌, Option, Some, None, refl, sym, ap, ◌∙◌, subst, arith}
 use Rattle.std.proofs.lemmas.List.{length-append}
 use Rattle.mm_logic.specs.Formula.{Formula}
 use Rattle.mm_ops.specs.OpValue.{OpValue}
@@ -8,9 +8,9 @@ use Rattle.mm_machine.specs.declared.part.Part.{Part}
 use Rattle.mm_machine.specs.declared.part.Parts.{Parts}
 use Rattle.mm_machine.specs.declared.part.Node.{Node}
 use Rattle.mm_machine.specs.declared.part.Node.TheVariants as node
-use Rattle.mm_machine.specs.Parts.{Block, Memory, nothing, View, view_of, views, IsTrue, IsSoundPart, IsSound}
-use Rattle.mm_machine.specs.Blocks.{node_block, node_cut, memory, no_memory, block_of, cut_of, blocks_of, cuts_of, blocks, cuts}
-use Rattle.mm_machine.specs.Shapes.{node_shape, sign, shapes, head_shape}
+use Rattle.mm_machine.specs.Parts.{Memory, nothing, View, view_of, views, IsTrue, IsSoundPart, IsSound}
+use Rattle.mm_machine.specs.Blocks.{node_block, node_cut, memory, no_memory, block_of, cut_of, blocks_of, cuts_of}
+use Rattle.mm_machine.specs.Shapes.{node_shape, sign, shapes}
 use Rattle.mm_machine.specs.Operators.{node_of, AreForgotten, KeepsTables}
 
 -- ---- the formulas by what the parts make of those after them

@@ -1,5 +1,5 @@
 -- What a formula has as types, and how its lists grow, does not depend on which its connectives and quantifiers are.
-use Rattle.std.proofs.Common.{◌≡◌, ◌<◌, ◌≤◌, ◌+◌, ◌++◌, ◌||◌, ℕ, Bool, true, false, Option, Some, None, List, [], ◌∷◌, map, flat_map, length, get_or, sum_by, refl, sym, ap, ◌∙◌, subst, arith, Result, Ok, Err}
+use Rattle.std.proofs.Common.{◌≡◌, ◌<◌, ◌+◌, ◌++◌, ◌||◌, ℕ, true, false, Option, Some, None, List, [], ◌∷◌, map, flat_map, length, get_or, sum_by, refl, sym, ap, ◌∙◌, subst, arith, Result, Ok, Err}
 use Rattle.std.proofs.lemmas.List.{map-append}
 use Rattle.mm_field.specs.declared.Field.{Field}
 use Rattle.mm_logic.specs.Formula.{Formula, Connective}

@@ -11,7 +11,7 @@ use Rattle.mm_machine.specs.declared.part.Part.{Part}
 use Rattle.mm_machine.specs.declared.part.Node.{Node}
 use Rattle.mm_machine.specs.declared.part.Node.TheVariants as node
 use Rattle.mm_machine.specs.declared.part.Quantifier.{Quantifier}
-use Rattle.mm_machine.specs.Parts.{Block, views, IsSound, IsFormulaOver}
+use Rattle.mm_machine.specs.Parts.{views, IsSound, IsFormulaOver}
 use Rattle.mm_machine.specs.Blocks.{blocks_of, cuts_of}
 use Rattle.mm_machine.specs.Empties.{emptied}
 use Rattle.mm_machine.specs.Shapes.{head_shape, shapes}

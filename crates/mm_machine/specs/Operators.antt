@@ -5,7 +5,7 @@ use Rattle.mm_states.specs.Memos.{joins_answer, no_answers}
 use Rattle.mm_machine.specs.declared.part.Part.{Part}
 use Rattle.mm_machine.specs.declared.part.Parts.{Parts}
 use Rattle.mm_machine.specs.declared.part.Node.{Node}
-use Rattle.mm_machine.specs.Parts.{views, IsSound}
+use Rattle.mm_machine.specs.Parts.{IsSound}
 use Rattle.mm_machine.specs.Blocks.{blocks, cuts}
 
 abbrev pub node_of : Part → Node

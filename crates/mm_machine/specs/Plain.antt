@@ -1,5 +1,4 @@
 -- A formula with its connectives and quantifiers made alike: what a type is does not depend on which they are, and acceptance alone does.
-use Rattle.std.specs.Prelude.{ℕ}
 use Rattle.mm_logic.specs.Formula.{Formula, Connective}
 use Rattle.mm_logic.specs.Formula.Formula.{Const, Ind, Member, SameElem, Sub, SameSet, Not, Bin, ExSet, AllSet, ExElem, AllElem}
 

@@ -30,7 +30,9 @@ fn connective_of(node: &Node) -> Connective
 // The connective at a place.
 fn connective_at(parts: &Parts, at: usize) -> Connective
     requires { at < length parts.now.list.items }
-    ensures { (skip : ℕ) → Begins (drop at (blocks parts.now)) (kind.IsPair skip) → head_shape (drop at (shapes parts.now.list.items)) ≡ Bin (connective result) (head_shape (drop (at + 1) (shapes parts.now.list.items))) (head_shape (drop (at + 1 + skip) (shapes parts.now.list.items))) }
+    ensures { (skip : ℕ) → Begins (drop at (blocks parts.now)) (kind.IsPair skip) → head_shape (drop at (shapes parts.now.list.items))
+        ≡ Bin (connective result) (head_shape (drop (at + 1) (shapes parts.now.list.items)))
+        (head_shape (drop (at + 1 + skip) (shapes parts.now.list.items))) }
 {
     connective_of(&parts.list[at].node)
 }
@@ -48,8 +50,12 @@ fn quantifier_of(node: &Node) -> Quantifier
 // The quantifier at a place.
 fn quantifier_at(parts: &Parts, at: usize) -> Quantifier
     requires { at < length parts.now.list.items }
-    ensures sets { Begins (drop at (blocks parts.now)) kind.IsSet → (k : ℕ) × (head_shape (drop at (shapes parts.now.list.items)) ≡ over_sets result k (head_shape (drop (at + 1) (shapes parts.now.list.items)))) }
-    ensures elements { Begins (drop at (blocks parts.now)) kind.IsOne → (k : ℕ) × (head_shape (drop at (shapes parts.now.list.items)) ≡ over_elements result k (head_shape (drop (at + 1) (shapes parts.now.list.items)))) }
+    ensures sets { Begins (drop at (blocks parts.now)) kind.IsSet → (k : ℕ) ×
+        (head_shape (drop at (shapes parts.now.list.items)) ≡ over_sets result k
+        (head_shape (drop (at + 1) (shapes parts.now.list.items)))) }
+    ensures elements { Begins (drop at (blocks parts.now)) kind.IsOne → (k : ℕ) ×
+        (head_shape (drop at (shapes parts.now.list.items)) ≡ over_elements result k
+        (head_shape (drop (at + 1) (shapes parts.now.list.items)))) }
 {
     quantifier_of(&parts.list[at].node)
 }
@@ -98,7 +104,8 @@ pub(crate) fn accepts_at(parts: &Parts, at: usize, id: TypeId) -> bool
 fn accepts_members(parts: &Parts, at: usize, quantifier: Quantifier, ids: &[TypeId]) -> bool
     requires look { CanLook (drop at (blocks parts.now)) }
     requires ids { AllFit (IsNumber (views (drop at (blocks parts.now)))) ids.now }
-    ensures { result ≡ quantified quantifier (accepts_by (drop at (shapes parts.now.list.items)) (views (drop at (blocks parts.now)))) ids.now }
+    ensures { result ≡ quantified quantifier (accepts_by (drop at (shapes parts.now.list.items))
+        (views (drop at (blocks parts.now)))) ids.now }
 {
     match quantifier {
         Quantifier::Ex => any_accepted(parts, at, ids),

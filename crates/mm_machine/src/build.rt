@@ -64,7 +64,8 @@ fn push_parts(
     list: &mut Vec<Part>,
 ) -> Result<(), NoMemory>
     requires { length (names binders.now) + depth (syntax_of formula.now) ≤ 16 }
-    ensures { OnOk result (Built f (slotted (names binders.now) (syntax_of formula.now)) (reverse list.old.items) (reverse list.new.items)) }
+    ensures { OnOk result (Built f (slotted (names binders.now) (syntax_of formula.now)) (reverse list.old.items)
+        (reverse list.new.items)) }
 {
     match formula {
         Formula::Const(value) => {
@@ -130,7 +131,8 @@ fn push_scoped(
     list: &mut Vec<Part>,
 ) -> Result<(), NoMemory>
     ensures size { nodes (syntax_of scoped.now.formula) ≤ 512 }
-    ensures built { OnOk result (Built f (slotted (outermost scoped.now.free) (syntax_of scoped.now.formula)) (reverse list.old.items) (reverse list.new.items)) }
+    ensures built { OnOk result (Built f (slotted (outermost scoped.now.free) (syntax_of scoped.now.formula)) (reverse list.old.items)
+        (reverse list.new.items)) }
 {
     let formula = scoped.formula();
     let none = Binders::Outermost;

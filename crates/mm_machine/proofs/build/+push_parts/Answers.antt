@@ -1,7 +1,5 @@
-use Rattle.std.proofs.Common.{◌≡◌, ◌+◌, ◌-◌, ℕ, length, reverse, OnOk, sym, ap, ◌∙◌, subst, arith, ◌∷◌}
+use Rattle.std.proofs.Common.{◌-◌, length, reverse, OnOk, subst, arith, ◌∷◌}
 use Rattle.std.proofs.lemmas.List.{length-reverse}
-use Rattle.mm_logic.specs.Formula.{Formula}
-use Rattle.mm_logic.specs.Occurrence.{nodes}
 use Rattle.mm_formula.specs.Scope.{slotted}
 use Rattle.mm_formula.specs.Syntax.{syntax_of}
 use Rattle.mm_formula.specs.Variables.{is_set}

@@ -1,4 +1,4 @@
-use Rattle.std.proofs.Common.{◌≡◌, ◌≤◌, length, reverse, subst, arith}
+use Rattle.std.proofs.Common.{reverse, subst, arith}
 use Rattle.std.proofs.lemmas.List.{length-reverse}
 use Rattle.mm_formula.specs.Scope.{outermost, slotted}
 use Rattle.mm_formula.specs.Syntax.{syntax_of}

@@ -1,7 +1,7 @@
 use Rattle.std.proofs.Common.{◌<◌, length, refl, ap, ◌∙◌, arith}
 use Rattle.std.proofs.lemmas.List.{length-set}
 use Rattle.mm_machine.specs.Shapes.{sign}
-use Rattle.mm_machine.specs.Blocks.{block_of, cut_of}
+use Rattle.mm_machine.specs.Blocks.{block_of}
 use Rattle.mm_machine.specs.Remembers.{bare}
 use Rattle.mm_machine.proofs.BlockLemmas.{stays_at}
 use Rattle.mm_machine.proofs.MarkLemmas.{mark_step, mark_end, blocks_at}

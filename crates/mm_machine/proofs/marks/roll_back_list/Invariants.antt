@@ -2,7 +2,6 @@ use Rattle.std.proofs.Common.{◌≡◌, ◌++◌, List, map, length, take, drop
 use Rattle.mm_ops.specs.OpValue.{OpValue}
 use Rattle.mm_machine.specs.Shapes.{sign}
 use Rattle.mm_machine.specs.Blocks.{blocks_of, cuts_of}
-use Rattle.mm_machine.specs.Remembers.{bare}
 use Rattle.mm_machine.proofs.marks.roll_back_list.Given as goal
 
 abbrev pub invariant-loop-i : goal.invariant-loop-i

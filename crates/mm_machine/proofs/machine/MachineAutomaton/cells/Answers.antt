@@ -1,4 +1,4 @@
-use Rattle.std.proofs.Common.{◌≡◌, ◌<◌, ◌∙◌, arith}
+use Rattle.std.proofs.Common.{◌∙◌, arith}
 use Rattle.mm_machine.proofs.MachineLemmas.{first_look, first_cells}
 use Rattle.mm_machine.proofs.machine.MachineAutomaton.cells.Goals as goal
 

@@ -1,5 +1,4 @@
-use Rattle.std.proofs.Common.{◌≡◌, ◌≤◌, ◌∙◌, length, ap, arith}
-use Rattle.mm_machine.specs.Machines.{marked_in}
+use Rattle.std.proofs.Common.{◌∙◌, length, ap, arith}
 use Rattle.mm_machine.specs.Parts.{lists, views}
 use Rattle.mm_machine.proofs.MachineLemmas.{shape_stays, keeps_signs, keeps_marked, keeps_machine, join_can, join_answers, no_number, done_machine}
 use Rattle.mm_machine.proofs.machine.MachineAutomaton.join.Goals as goal

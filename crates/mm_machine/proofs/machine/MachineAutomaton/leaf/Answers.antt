@@ -1,5 +1,4 @@
-use Rattle.std.proofs.Common.{◌≡◌, ◌≤◌, length, ap, arith}
-use Rattle.mm_machine.specs.Machines.{shape_in, IsMachine}
+use Rattle.std.proofs.Common.{length, ap, arith}
 use Rattle.mm_machine.proofs.MachineLemmas.{first_read, done_answers, leaf_is, shape_stays, done_machine}
 use Rattle.mm_machine.proofs.machine.MachineAutomaton.leaf.Goals as goal
 

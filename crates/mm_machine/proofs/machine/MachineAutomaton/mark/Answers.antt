@@ -1,4 +1,4 @@
-use Rattle.std.proofs.Common.{◌≡◌, ◌≤◌, length, ap, arith}
+use Rattle.std.proofs.Common.{length, ap, arith}
 use Rattle.mm_machine.proofs.MachineLemmas.{shape_stays, mark_machine, mark_lists}
 use Rattle.mm_machine.proofs.machine.MachineAutomaton.mark.Goals as goal
 

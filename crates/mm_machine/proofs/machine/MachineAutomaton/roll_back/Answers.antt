@@ -1,4 +1,4 @@
-use Rattle.std.proofs.Common.{◌≡◌, ◌≤◌, length, ap, arith}
+use Rattle.std.proofs.Common.{length, ap, arith}
 use Rattle.mm_machine.proofs.MachineLemmas.{shape_stays, back_machine}
 use Rattle.mm_machine.proofs.machine.MachineAutomaton.roll_back.Goals as goal
 
