@@ -56,7 +56,7 @@ nodes_some (AllSet k F) = omega arith
 nodes_some (ExElem k F) = omega arith
 nodes_some (AllElem k F) = omega arith
 
-plain_count : (F : Formula) → length (nodes (plain F)) ≡ length (nodes F)
+pub plain_count : (F : Formula) → length (nodes (plain F)) ≡ length (nodes F)
 plain_count F = ap length (plain_nodes F) ∙ length-map (nodes F) plain
 
 count_sets : (q : Quantifier) (k : ℕ) (G : Formula) → length (nodes (over_sets q k G)) ≡ suc (length (nodes G))
