@@ -2,6 +2,7 @@
 
 ghost use Rattle.std.specs.Prelude.{◌≡◌, ◌<◌, length, slice_index_or};
 ghost use Rattle.mm_logic.specs.Value.{Value as value};
+ghost use Rattle.mm_states.specs.Letters.{has_ind};
 ghost use Rattle.mm_base_auto.specs.Atoms.{shown};
 ghost use Rattle.mm_base_auto.specs.OneAtom.{atom_shape, atom_field, atom_values};
 
@@ -50,7 +51,9 @@ impl Atom {
     }
 
     /// Whether it is `ind`, whose joins cost more than a look-up. No memory.
-    pub fn is_ind(&self) -> bool {
+    pub fn is_ind(&self) -> bool
+        ensures { result ≡ has_ind (atom_shape self.now) }
+    {
         matches!(self, Atom::Ind(_))
     }
 

@@ -54,7 +54,6 @@ impl<K: TableKey> MarkedTable<K> {
 
     /// How many values there are.
     pub fn len(&self) -> u32
-        requires { length self.now.table < 2 ^ 32 }
         ensures { result ≡ length self.now.table }
     {
         self.table.len()

@@ -71,7 +71,6 @@ impl OneTable {
 
     /// How many values there are.
     pub fn len(&self) -> u32
-        requires { length self.now.values < 2 ^ 32 }
         ensures { result ≡ length self.now.values }
     {
         self.table.len()

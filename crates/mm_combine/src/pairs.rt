@@ -64,7 +64,6 @@ impl PairTable {
 
     /// How many pairs there are.
     pub fn len(&self) -> u32
-        requires { length self.now.values < 2 ^ 32 }
         ensures { result ≡ length self.now.values }
     {
         self.table.len()

@@ -40,7 +40,6 @@ impl SetTable {
 
     /// How many sets there are.
     pub fn len(&self) -> u32
-        requires { length self.now.values < 2 ^ 32 }
         ensures { result ≡ length self.now.values }
     {
         self.table.len()

@@ -1,0 +1,27 @@
+-- An operator that is put among those with numbers.
+use Rattle.std.proofs.Common.{◌≡◌, ◌++◌, ℕ, Bool, true, false, List, [], ◌∷◌, slice_get, Some, Result, Ok, Err, OnOk, OnErr, IfOk, refl, sym, ap, ◌∙◌, subst, if◌then◌else◌}
+use Rattle.std.specs.List.{list_any}
+use Rattle.indexmap.specs.IndexSet.{insert_key}
+use Rattle.mm_ops.specs.OpValue.{OpValue}
+use Rattle.mm_ops.proofs.OpEquality.{op_same as one_operator}
+use Rattle.mm_states.specs.Numbered.{op_same}
+use Rattle.mm_machine.specs.declared.part.Parts.{Parts}
+use Rattle.mm_machine.specs.Operators.{KeepsTables}
+use Rattle.mm_machine.proofs.NodeLemmas.{keeps_none, keeps_more}
+
+-- the operators stay, or there is one more
+put_cases : (ops news : List OpValue) (op : OpValue) → news ≡ insert_key op_same ops op → (b : Bool) → list_any (op_same op) ops ≡ b → news ≡ (if b then ops else ops ++ op ∷ [])
+put_cases ops news op e b h = e ∙ ap (λ (c : Bool). if c then ops else ops ++ op ∷ []) h
+
+pub put_number : {E : Type 0} (news : List OpValue) (op : OpValue) (r : Result ℕ E) → IfOk r (λ n. (x : OpValue) × (slice_get news n ≡ Some x) × (op_same op x ≡ true)) → IfOk r (λ n. slice_get news n ≡ Some op)
+put_number news op (Ok n) h = h.1 ∙ ap Some (sym (one_operator op h.0 h.2))
+put_number news op (Err e) h = tt
+
+module _ (ps : Parts) (news : List OpValue) (op : OpValue) where
+  kept_by : (b : Bool) → news ≡ (if b then ps.ops else ps.ops ++ op ∷ []) → KeepsTables ps (record { ops = news; list = ps.list })
+  kept_by true e = subst (λ z. KeepsTables ps (record { ops = z; list = ps.list })) (sym e) (keeps_none ps)
+  kept_by false e = keeps_more ps (record { ops = news; list = ps.list }) op refl e
+
+  pub put_keeps : {E : Type 0} (r : Result ℕ E) → OnOk r (news ≡ insert_key op_same ps.ops op) → OnErr r (news ≡ ps.ops) → KeepsTables ps (record { ops = news; list = ps.list })
+  put_keeps (Ok n) e s = kept_by (list_any (op_same op) ps.ops) (put_cases ps.ops news op e (list_any (op_same op) ps.ops) refl)
+  put_keeps (Err x) e s = kept_by true s
