@@ -18,9 +18,7 @@ use crate::build_lines::{is_shape_part, read_build_line, read_shape_line};
 use crate::shape::MAX_LEAVES;
 use crate::step_lines::Steps;
 use mm_field::Field;
-use mm_job_text::{
-    NameSet, Refusal, Stop, add_elements, add_row, begins, read_field, too_long,
-};
+use mm_job_text::{NameSet, Refusal, Stop, add_elements, add_row, begins, read_field, too_long};
 use mm_lines::Line;
 use mm_matrix::Matrix;
 use std::alloc::Global;
@@ -113,7 +111,8 @@ fn take_row(alloc: Global, state: &mut BuildState, line: &Line) -> Result<(), St
 fn take_shape(state: &BuildState, line: &Line) -> Result<(), Stop>
     requires { begins (codes "row") line.now ≡ false }
     ensures { (rs : List LineOf) →
-        Goes result (rows_part (given_in state.now) (line.now ∷ rs)) (λ u. steps_part (given_in state.now) (record { steps = []; numbers = [] }) rs) }
+        Goes result (rows_part (given_in state.now) (line.now ∷ rs))
+        (λ u. steps_part (given_in state.now) (record { steps = []; numbers = [] }) rs) }
 {
     let _ = state;
     if let Some(refusal) = too_long(line) {
@@ -139,7 +138,7 @@ fn take_end(steps: &Steps, line: &Line) -> Result<(), Stop>
     ensures one { IfOk result (λ u. length (after_steps [] steps.now.builder) ≡ 1) }
     ensures goes { (given : Given) (rs : List LineOf) →
         Goes result (steps_part given (step_lines steps.now) (line.now ∷ rs)) (λ u.
-            nothing_after (record { given = given; shape = step_lines steps.now }) rs) }
+        nothing_after (record { given = given; shape = step_lines steps.now }) rs) }
 {
     if let Some(refusal) = too_long(line) {
         return Err(Stop::Refused(refusal));
