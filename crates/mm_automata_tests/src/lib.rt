@@ -7,6 +7,4 @@ mod base_auto;
 #[cfg(test)]
 mod combine;
 #[cfg(test)]
-mod kept;
-#[cfg(test)]
 mod states;
