@@ -56,11 +56,11 @@ fn many_joins_are_remembered(rt: HostRuntime) -> Result<(), NoMemory> {
             memo.keep(alloc, 2, left, right, left * 100 + right)?;
         }
     }
-    let mut found = 0;
+    let mut found = 0u32;
     for left in 0..40 {
         for right in 0..40 {
             if memo.find(2, left, right) == Some(left * 100 + right) {
-                found += 1;
+                found = found.saturating_add(1);
             }
         }
     }
