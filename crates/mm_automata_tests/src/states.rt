@@ -3,7 +3,7 @@ use mm_base::NoMemory;
 use mm_field::Field;
 use mm_ops::Op;
 use mm_space::Gen;
-use mm_states::{JoinMemo, Memo, Table};
+use mm_states::{Memo, Table};
 use std::test::Fail;
 
 #[test]
@@ -44,27 +44,5 @@ fn joins_are_remembered_by_their_operators(rt: HostRuntime) -> Result<(), Fail> 
     assert_eq!(rt; memo.find(&sum, 2, 1), None);
     memo.clear();
     assert_eq!(rt; memo.find(&sum, 1, 2), None);
-    Ok(())
-}
-
-#[test]
-fn many_joins_are_remembered(rt: HostRuntime) -> Result<(), NoMemory> {
-    let alloc = rt.alloc();
-    let mut memo = JoinMemo::new(alloc);
-    for left in 0..40 {
-        for right in 0..40 {
-            memo.keep(alloc, 2, left, right, left * 100 + right)?;
-        }
-    }
-    let mut found = 0u32;
-    for left in 0..40 {
-        for right in 0..40 {
-            if memo.find(2, left, right) == Some(left * 100 + right) {
-                found = found.saturating_add(1);
-            }
-        }
-    }
-    assert!(rt; found > 1400);
-    assert_eq!(rt; memo.find(1, 3, 4), None);
     Ok(())
 }
