@@ -1,7 +1,7 @@
 //! Matrices with known row spaces.
 
 use mm_field::Field;
-use mm_matrix::{Echelon, Matrix, orthogonal};
+use mm_matrix::{Echelon, Matrix, combination, orthogonal};
 use std::test::Fail;
 
 #[test]
@@ -59,6 +59,7 @@ fn columns_products_stacks(rt: HostRuntime) -> Result<(), Fail> {
     assert_eq!(rt; columns.row(1), [1, 3].as_slice());
     let product = columns.times(alloc, &m)?;
     assert_eq!(rt; product.row(0), [4, 0].as_slice());
+    assert_eq!(rt; &combination(alloc, &[2, 4], &m)?[..], [4, 0].as_slice());
     let stacked = columns.stacked(alloc, &m)?;
     assert_eq!(rt; stacked.rows(), 5);
     assert_eq!(rt; stacked.row(4), [3, 4].as_slice());

@@ -1,8 +1,7 @@
 -- The lines of a header from their parts.
-use Rattle.std.proofs.Common.{ℕ, zero, suc, ◌+◌, ◌-◌, ◌*◌, ◌<◌, ◌≤◌, ◌≡◌, min, List, [], ◌∷◌, ◌++◌, length, map, take, drop, get_or, refl, sym, ap, ap₂, ◌∙◌, subst, arith, append_assoc, append-nil, length-drop, Option, Some, None, Box, Global}
+use Rattle.std.proofs.Common.{ℕ, ◌+◌, ◌-◌, ◌*◌, ◌<◌, ◌≡◌, min, List, [], ◌∷◌, ◌++◌, length, map, take, drop, get_or, refl, sym, ap, ap₂, ◌∙◌, arith, append_assoc, append-nil, length-drop, Option, Some, None, Box, Global}
 use Rattle.std.specs.Prelude.{codes}
 use Rattle.std.specs.Fmt.{decimal}
-use Rattle.std.specs.Int.{div_ceil}
 use Rattle.std.specs.List.{All, range_with_len, slice_get}
 use Rattle.std.proofs.lemmas.Grind.{div_ceil_times}
 use Rattle.std.proofs.lemmas.List.{get_or-drop, map-append, take_all, take_min, take_more}
@@ -28,7 +27,7 @@ use Rattle.mm_tree.specs.declared.node.Node.TheViews as views
 use Rattle.mm_tree.proofs.TextLemmas.{text_of_both}
 use Rattle.mm_tree.proofs.Walks.{named_join}
 use Rattle.mm_decomp.proofs.OperatorLemmas.{rows_text_step, rows_text_done}
-use Rattle.mm_decomp.specs.HeaderText.{elements_lines, elements_text, field_text, header_text, lines_before_tree, name_lines, names_of_line, operator_lines, operator_text, row_text}
+use Rattle.mm_decomp.specs.HeaderText.{elements_lines, elements_text, field_text, header_text, name_lines, operator_lines, operator_text, row_text}
 
 -- ---- the field
 

@@ -19,3 +19,4 @@ pub mod TreeShapeLemmas
 pub mod HeaderTextLemmas
 pub mod StepLineLemmas
 pub mod BuildStateLemmas
+pub mod ReadLemmas

@@ -1,10 +1,10 @@
 -- A line of a shape is refused where a builder refuses it, and adds the step that the builder adds.
-use Rattle.std.proofs.Common.{ℕ, ◌≡◌, Bool, true, false, List, [], ◌∷◌, ◌++◌, Option, Some, None, refl, sym, ap, ◌∙◌, subst}
+use Rattle.std.proofs.Common.{ℕ, ◌≡◌, Bool, true, false, [], ◌∷◌, ◌++◌, Option, None, sym, ap, ◌∙◌, subst}
 use Rattle.std.specs.Prelude.{Ok, Err, codes}
 use Rattle.std.specs.declared.result.Result.{Result}
 use Rattle.mm_lines.specs.declared.line.Line.{Line}
 use Rattle.mm_job_text.specs.Arguments.{is_word}
-use Rattle.mm_job_text.specs.Becoming.{Becomes, UnlessMemory}
+use Rattle.mm_job_text.specs.Becoming.{UnlessMemory}
 use Rattle.mm_job_text.specs.Checks.{◌>>=◌, ◌>>◌, require, unless}
 use Rattle.mm_job_text.specs.declared.refusal.Refusal.{Refusal}
 use Rattle.mm_job_text.specs.declared.refusal.Refusal.TheVariants as refusal
@@ -13,7 +13,6 @@ use Rattle.mm_decomp.specs.BuildLines.{StepLines, leaf_fields, leaf_line, join_l
 use Rattle.mm_decomp.specs.BuildStates.{stop_of}
 use Rattle.mm_decomp.specs.ShapeBuilding.{Answers, AnswersExactly, leaf_fault, join_fault}
 use Rattle.mm_decomp.specs.declared.build_lines.LeafLine.{LeafLine}
-use Rattle.mm_decomp.specs.declared.shape.Step.{Step}
 use Rattle.mm_decomp.specs.declared.shape.Step.TheVariants as steps
 use Rattle.mm_decomp.specs.declared.shape_builder.ShapeFault.{ShapeFault}
 use Rattle.mm_decomp.specs.declared.shape_builder.ShapeFault.TheVariants as fault

@@ -1,5 +1,5 @@
 -- Between code and definitions: what the state of a decomposition's text makes of the lines that are left, and what it keeps.
-use Rattle.std.specs.Prelude.{ℕ, ◌≡◌, List, [], length}
+use Rattle.std.specs.Prelude.{ℕ, ◌≡◌, [], length}
 use Rattle.std.specs.List.{IsDistinct}
 use Rattle.std.specs.Str.{bytes_eq}
 use Rattle.mm_job_text.specs.Readers.{Reader}

@@ -10,7 +10,7 @@ use Rattle.mm_job_text.specs.Arguments.{begins}
 use Rattle.mm_job_text.specs.Checks.{unless}
 use Rattle.mm_job_text.specs.Checks.{◌>>=◌ as ◌and_then◌, ◌>>◌ as ◌and◌}
 use Rattle.mm_job_text.specs.HeaderLines.{field_line, elements_line, row_line}
-use Rattle.mm_job_text.specs.Readers.{Reading, Read, Refused, Short, Reader, ◌>>=◌, ◌>>◌, line, each, whole}
+use Rattle.mm_job_text.specs.Readers.{Reading, Read, Refused, Short, Reader, ◌>>=◌, ◌>>◌, line, each}
 use Rattle.mm_job_text.specs.declared.refusal.Refusal.{Refusal}
 use Rattle.mm_job_text.specs.declared.refusal.Refusal.TheVariants as refusal
 use Rattle.mm_decomp.specs.BuildLines.{StepLines, build_line, shape_line, shape_part, is_shape_part, end_line}
@@ -76,6 +76,10 @@ same_names d =
     let leaves = leaf_names d.shape.steps in
     (unless (option_map refusal.Elements (option_or (first_missing names leaves) (first_missing leaves names)))) and (Ok d)
 
+-- What is read of all lines, and its names compared.
+abbrev pub read_at_end : Bool → Reading Decomposition → Result Decomposition Refusal
+read_at_end over reading = (at_end over reading) and_then same_names
+
 -- The decomposition that a text gives, or the text's refusal.
 unfoldable pub decomposition_of : List ℕ → Result Decomposition Refusal
-decomposition_of text = (at_end (is_over text) (build_parts (lines text))) and_then same_names
+decomposition_of text = read_at_end (is_over text) (build_parts (lines text))

@@ -12,3 +12,4 @@ pub mod HeaderText
 pub mod BuildLines
 pub mod Decompositions
 pub mod BuildStates
+pub mod BuildTexts

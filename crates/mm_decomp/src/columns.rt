@@ -17,7 +17,7 @@ use mm_matrix::{Echelon, Matrix};
 use std::alloc::Global;
 
 /// The set of different names, in their order.
-fn set_of(alloc: Global, names: &NameList) -> Result<IndexSet<Name>, NoMemory>
+pub(crate) fn set_of(alloc: Global, names: &NameList) -> Result<IndexSet<Name>, NoMemory>
     requires { IsDistinct bytes_eq names.now }
     ensures { IfOk result (λ set. set.keys ≡ names.now) }
 {

@@ -8,9 +8,11 @@
 mod build;
 mod build_lines;
 mod build_state;
+mod build_text;
 mod columns;
 mod form;
 mod operator;
+mod read;
 mod shape;
 mod shape_builder;
 mod step_lines;
@@ -18,6 +20,8 @@ mod tree_shape;
 mod write;
 
 pub use build::{DecompFault, build_tree};
+pub use build_text::{BuildText, LineNumbers};
+pub use read::read_build;
 pub use shape::{Shape, Step};
 pub use shape_builder::{ShapeBuilder, ShapeFault};
 pub use tree_shape::shape_of;

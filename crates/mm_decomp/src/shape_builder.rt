@@ -114,7 +114,7 @@ impl ShapeBuilder {
     }
 
     /// Whether there is exactly one shape.
-    pub fn is_one(&self) -> bool
+    pub(crate) fn is_one(&self) -> bool
         ensures { result ≡ (length (after_steps [] self.now) == 1) }
     {
         self.depths.len() == 1

@@ -29,12 +29,12 @@ use Rattle.mm_logic.specs.Types.{type_of}
 abbrev pub AtMost : List ℤ → List Bool → List Bool → Type 0
 AtMost ws X Y = (X ≡ Y) ⊎ IsBefore ws X Y
 
-precedes-itself : (X : List Bool) → precedes X X ≡ false
+pub precedes-itself : (X : List Bool) → precedes X X ≡ false
 precedes-itself [] = refl
 precedes-itself (true ∷ X) = precedes-itself X
 precedes-itself (false ∷ X) = precedes-itself X
 
-precedes-or : (X Y : List Bool) → length X ≡ length Y → precedes Y X ≡ false → (X ≡ Y) ⊎ (precedes X Y ≡ true)
+pub precedes-or : (X Y : List Bool) → length X ≡ length Y → precedes Y X ≡ false → (X ≡ Y) ⊎ (precedes X Y ≡ true)
 precedes-or [] [] e h = inl refl
 precedes-or [] (y ∷ Y) e h = absurd (omega arith)
 precedes-or (x ∷ X) [] e h = absurd (omega arith)
@@ -43,7 +43,7 @@ precedes-or (true ∷ X) (false ∷ Y) e h = let c : true ≡ false = h in cc
 precedes-or (false ∷ X) (false ∷ Y) e h = elim (precedes-or X Y (omega arith) h) [ inl q ↦ inl (ap (λ Z. false ∷ Z) q) | inr p ↦ inr p ]
 precedes-or (true ∷ X) (true ∷ Y) e h = elim (precedes-or X Y (omega arith) h) [ inl q ↦ inl (ap (λ Z. true ∷ Z) q) | inr p ↦ inr p ]
 
-precedes-then : (X Y Z : List Bool) → precedes X Y ≡ true → precedes Y Z ≡ true → precedes X Z ≡ true
+pub precedes-then : (X Y Z : List Bool) → precedes X Y ≡ true → precedes Y Z ≡ true → precedes X Z ≡ true
 precedes-then [] Y Z p q = let c : false ≡ true = p in cc
 precedes-then (x ∷ X) [] Z p q = let c : false ≡ true = p in cc
 precedes-then (x ∷ X) (y ∷ Y) [] p q = let c : false ≡ true = q in cc
@@ -55,25 +55,25 @@ precedes-then (true ∷ X) (false ∷ Y) (z ∷ Z) p q = let c : false ≡ true 
 precedes-then (true ∷ X) (true ∷ Y) (false ∷ Z) p q = let c : false ≡ true = q in cc
 precedes-then (true ∷ X) (true ∷ Y) (true ∷ Z) p q = precedes-then X Y Z p q
 
-lt-then : (a b c : ℤ) → a <ℤ b → b <ℤ c → a <ℤ c
+pub lt-then : (a b c : ℤ) → a <ℤ b → b <ℤ c → a <ℤ c
 lt-then a b c p q = omega (arith, ints)
 
-before-then : (ws : List ℤ) (X Y Z : List Bool) → IsBefore ws X Y → IsBefore ws Y Z → IsBefore ws X Z
+pub before-then : (ws : List ℤ) (X Y Z : List Bool) → IsBefore ws X Y → IsBefore ws Y Z → IsBefore ws X Z
 before-then ws X Y Z (inl p) (inl q) = inl (lt-then (weight ws X) (weight ws Y) (weight ws Z) p q)
 before-then ws X Y Z (inl p) (inr q) = inl (subst (λ w. weight ws X <ℤ w) q.0 p)
 before-then ws X Y Z (inr p) (inl q) = inl (subst (λ w. w <ℤ weight ws Z) (sym p.0) q)
 before-then ws X Y Z (inr p) (inr q) = inr (p.0 ∙ q.0, precedes-then X Y Z p.1 q.1)
 
-at_most-then : (ws : List ℤ) (X Y Z : List Bool) → AtMost ws X Y → AtMost ws Y Z → AtMost ws X Z
+pub at_most-then : (ws : List ℤ) (X Y Z : List Bool) → AtMost ws X Y → AtMost ws Y Z → AtMost ws X Z
 at_most-then ws X Y Z (inl e) h = subst (λ W. AtMost ws W Z) (sym e) h
 at_most-then ws X Y Z (inr p) (inl e) = inr (subst (λ W. IsBefore ws X W) e p)
 at_most-then ws X Y Z (inr p) (inr q) = inr (before-then ws X Y Z p q)
 
 -- the test of two sets decides between them
-not_less : (a b : ℤ) → int_lt a b ≡ false → int_lt b a ≡ false → a ≡ b
+pub not_less : (a b : ℤ) → int_lt a b ≡ false → int_lt b a ≡ false → a ≡ b
 not_less a b p q = grind (arith, ints)
 
-is_less : (a b : ℤ) → int_lt a b ≡ true → a <ℤ b
+pub is_less : (a b : ℤ) → int_lt a b ≡ true → a <ℤ b
 is_less a b p = grind (arith, ints)
 
 before-when : (ws : List ℤ) (X Y : List Bool) → is_before ws X Y ≡ true → IsBefore ws X Y
@@ -85,7 +85,7 @@ before-when ws X Y h = by (int_lt (weight ws X) (weight ws Y)) (int_lt (weight w
     by false true p q e = let c : false ≡ true = e in cc
     by false false p q e = inr (not_less (weight ws X) (weight ws Y) p q, e)
 
-at_most-when_not : (ws : List ℤ) (X Y : List Bool) → length X ≡ length Y → is_before ws Y X ≡ false → AtMost ws X Y
+pub at_most-when_not : (ws : List ℤ) (X Y : List Bool) → length X ≡ length Y → is_before ws Y X ≡ false → AtMost ws X Y
 at_most-when_not ws X Y l h = by (int_lt (weight ws Y) (weight ws X)) (int_lt (weight ws X) (weight ws Y)) refl refl h
   where
     by : (a b : Bool) → int_lt (weight ws Y) (weight ws X) ≡ a → int_lt (weight ws X) (weight ws Y) ≡ b
@@ -200,10 +200,10 @@ first_unique ws n P X Y f g = go (f.best Y g.size g.member) (g.best X f.size f.m
 
 -- ---- sets at a join
 
-add_zero_z : (a : ℤ) → a ≡ pos 0 +ℤ a
+pub add_zero_z : (a : ℤ) → a ≡ pos 0 +ℤ a
 add_zero_z a = omega (arith, ints)
 
-weight-append : (us vs : List ℤ) (A B : List Bool) → length us ≡ length A → weight (us ++ vs) (A ++ B) ≡ weight us A +ℤ weight vs B
+pub weight-append : (us vs : List ℤ) (A B : List Bool) → length us ≡ length A → weight (us ++ vs) (A ++ B) ≡ weight us A +ℤ weight vs B
 weight-append [] vs [] B e = add_zero_z (weight vs B)
 weight-append [] vs (a ∷ A) B e = absurd (omega arith)
 weight-append (u ∷ us) vs [] B e = absurd (omega arith)
@@ -211,7 +211,7 @@ weight-append (u ∷ us) vs (true ∷ A) B e =
     ap (λ w. u +ℤ w) (weight-append us vs A B (omega arith)) ∙ sym (+ℤ_assoc u (weight us A) (weight vs B))
 weight-append (u ∷ us) vs (false ∷ A) B e = weight-append us vs A B (omega arith)
 
-precedes-left : (A A' B : List Bool) → length A ≡ length A' → precedes (A ++ B) (A' ++ B) ≡ precedes A A'
+pub precedes-left : (A A' B : List Bool) → length A ≡ length A' → precedes (A ++ B) (A' ++ B) ≡ precedes A A'
 precedes-left [] [] B e = precedes-itself B
 precedes-left [] (a ∷ A') B e = absurd (omega arith)
 precedes-left (a ∷ A) [] B e = absurd (omega arith)
@@ -220,21 +220,21 @@ precedes-left (true ∷ A) (false ∷ A') B e = refl
 precedes-left (false ∷ A) (true ∷ A') B e = refl
 precedes-left (false ∷ A) (false ∷ A') B e = precedes-left A A' B (omega arith)
 
-precedes-right : (A B B' : List Bool) → precedes (A ++ B) (A ++ B') ≡ precedes B B'
+pub precedes-right : (A B B' : List Bool) → precedes (A ++ B) (A ++ B') ≡ precedes B B'
 precedes-right [] B B' = refl
 precedes-right (true ∷ A) B B' = precedes-right A B B'
 precedes-right (false ∷ A) B B' = precedes-right A B B'
 
-less_left : (a b c : ℤ) → (a +ℤ c) <ℤ (b +ℤ c) → a <ℤ b
+pub less_left : (a b c : ℤ) → (a +ℤ c) <ℤ (b +ℤ c) → a <ℤ b
 less_left a b c h = omega (arith, ints)
 
-less_right : (a b c : ℤ) → (c +ℤ a) <ℤ (c +ℤ b) → a <ℤ b
+pub less_right : (a b c : ℤ) → (c +ℤ a) <ℤ (c +ℤ b) → a <ℤ b
 less_right a b c h = omega (arith, ints)
 
-same_left : (a b c : ℤ) → a +ℤ c ≡ b +ℤ c → a ≡ b
+pub same_left : (a b c : ℤ) → a +ℤ c ≡ b +ℤ c → a ≡ b
 same_left a b c h = omega (arith, ints)
 
-same_right : (a b c : ℤ) → c +ℤ a ≡ c +ℤ b → a ≡ b
+pub same_right : (a b c : ℤ) → c +ℤ a ≡ c +ℤ b → a ≡ b
 same_right a b c h = omega (arith, ints)
 
 at_most-left : (us vs : List ℤ) (A A' B : List Bool) → length us ≡ length A → length A ≡ length A' →
@@ -293,13 +293,13 @@ first-restricts us vs n m type left right j law lu v A B la lb f = (
 
 -- ---- the first set of a type is found among pairs of first sets
 
-more_left : (a b c : ℤ) → a <ℤ b → (a +ℤ c) <ℤ (b +ℤ c)
+pub more_left : (a b c : ℤ) → a <ℤ b → (a +ℤ c) <ℤ (b +ℤ c)
 more_left a b c h = omega (arith, ints)
 
-more_right : (a b c : ℤ) → a <ℤ b → (c +ℤ a) <ℤ (c +ℤ b)
+pub more_right : (a b c : ℤ) → a <ℤ b → (c +ℤ a) <ℤ (c +ℤ b)
 more_right a b c h = omega (arith, ints)
 
-at_most-more_left : (us vs : List ℤ) (A A' B : List Bool) → length us ≡ length A → length A ≡ length A' →
+pub at_most-more_left : (us vs : List ℤ) (A A' B : List Bool) → length us ≡ length A → length A ≡ length A' →
     AtMost us A A' → AtMost (us ++ vs) (A ++ B) (A' ++ B)
 at_most-more_left us vs A A' B l m h = go h
   where
@@ -315,7 +315,7 @@ at_most-more_left us vs A A' B l m h = go h
         (subst (λ x. x <ℤ (weight us A' +ℤ weight vs B)) (sym w) (more_left (weight us A) (weight us A') (weight vs B) p))))
     go (inr (inr p)) = inr (inr (w ∙ ap (λ x. x +ℤ weight vs B) p.0 ∙ sym w', precedes-left A A' B m ∙ p.1))
 
-at_most-more_right : (us vs : List ℤ) (A B B' : List Bool) → length us ≡ length A →
+pub at_most-more_right : (us vs : List ℤ) (A B B' : List Bool) → length us ≡ length A →
     AtMost vs B B' → AtMost (us ++ vs) (A ++ B) (A ++ B')
 at_most-more_right us vs A B B' l h = go h
   where
@@ -416,7 +416,7 @@ assign-append k (a ∷ A) B [] vs e = absurd (omega arith)
 assign-append k (a ∷ A) B (u ∷ us) vs e = ap (λ z. mark k a u ∷ z) (assign-append k A B us vs (omega arith))
 
 -- a first set of one property is a first set of another that says the same
-first-same : (ws : List ℤ) (n : ℕ) (P Q : List Bool → Type 0) → ((X : List Bool) → P X ↔ Q X) → (A : List Bool) → IsFirst ws n P A → IsFirst ws n Q A
+pub first-same : (ws : List ℤ) (n : ℕ) (P Q : List Bool → Type 0) → ((X : List Bool) → P X ↔ Q X) → (A : List Bool) → IsFirst ws n P A → IsFirst ws n Q A
 first-same ws n P Q e A h =
     record { size = h.size; member = (e A).0 h.member; best = λ Y l q. h.best Y l ((e Y).1 q) }
 

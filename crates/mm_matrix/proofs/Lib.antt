@@ -9,3 +9,4 @@ pub mod FreeLemmas
 pub mod ShareLemmas
 pub mod GrowthLemmas
 pub mod ColumnLemmas
+pub mod LeadLemmas

@@ -3,7 +3,7 @@
 
 ghost use Rattle.std.specs.Prelude.{◌≡◌, ◌≢◌, ◌<◌, ◌≤◌, ◌++◌, ◌∷◌, ℕ, List, length, map, take, drop, slice_index, OnOk, IfOk, MatchOption, All};
 ghost use Rattle.mm_field.specs.Digits.{inverse};
-ghost use Rattle.mm_field.specs.Vectors.{IsVector, AreVectors, InSpan, SameRowSpace, multiple};
+ghost use Rattle.mm_field.specs.Vectors.{IsVector, AreVectors, InSpan, SameRowSpace, multiple, zeros};
 ghost use Rattle.mm_linear.specs.Eliminate.{cleared};
 ghost use Rattle.mm_linear.specs.ReducedEchelon.{Leads};
 ghost use Rattle.mm_matrix.specs.KeptRows.{digits};
@@ -83,21 +83,23 @@ pub fn new_row(
     Ok(Some(NewRow { lead, digits: rest }))
 }
 
-/// Takes from `row` its part along `w`, which leads at `lead`.
+/// Takes from `row` its part along `w`, which leads at `lead`: nothing changes before there.
 fn clear_row(f: Field, lead: usize, w: &[u8], row: &mut [u8])
     requires place { lead < length w.now }
     requires vector { IsVector f (length w.now) w.now }
     requires row { IsVector f (length w.now) row.old }
+    requires start { take lead w.now ≡ zeros lead }
     ensures { row.new ≡ cleared f lead w.now row.old }
 {
     let factor = f.neg(row[lead]);
-    lanes::axpy(f, factor, w, row);
+    lanes::axpy(f, factor, &w[lead..], &mut row[lead..]);
 }
 
 /// Takes from each of the first `count` rows its part along `w`, which leads at `lead`.
 fn clear_first(f: Field, lead: usize, w: &[u8], rows: &mut Vec<Vec<u8>>, count: usize)
     requires place { lead < length w.now }
     requires vector { IsVector f (length w.now) w.now }
+    requires start { take lead w.now ≡ zeros lead }
     requires each { AreVectors f (length w.now) (digits rows.old.items) }
     requires count { count ≤ length rows.old.items }
     ensures { digits rows.new.items ≡ map (cleared f lead w.now) (take count (digits rows.old.items))

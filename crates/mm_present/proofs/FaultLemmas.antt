@@ -44,9 +44,6 @@ products_of_orthogonal f rows x o =
 
 -- ---- all rows
 
-pub all_rows : Field → Tree → List (List ℕ)
-all_rows f T = map (matrix_row f T) (range_with_len 0 (boundary T + internal T))
-
 pub all_rows_are : (f : Field) (T : Tree) → map (matrix_row f T) (range_with_len 0 (boundary T + internal T)) ≡ boundary_rows f T ++ internal_rows f T
 unfolding internal_rows
 all_rows_are f T =

@@ -127,9 +127,6 @@ join_images f op T L R columns left right m next middle before between after las
 
 -- ---- the whole tree
 
-true_of_and : (b : Bool) → (true && b) ≡ true → b ≡ true
-true_of_and b e = e
-
 pub all_images_zero : (f : Field) (tree : Tree) (given : List (List ℕ)) (space kernel columns rows : MatrixValue) (zero : Bool) → shapes.IsValid f (shape tree) →
     AreVectors f (shapes.size (shape tree)) given → space ≡ record { f = f; cols = shapes.size (shape tree); rows = reduced_basis f (shapes.size (shape tree)) given } →
     IsNullOf space kernel → AreVectors kernel.f kernel.cols kernel.rows →

@@ -118,9 +118,6 @@ all_at_join f op L R ok =
     ap (ind_type f (Join op.op L R)) (sym (replicate-append-replicate (size L) (size R) true))
     ∙ ind_at_join f op.op L R (replicate (size L) true) (replicate (size R) true) ok (length-replicate (size L) true) (length-replicate (size R) true)
 
-dead_left : (f : Field) (op : OpValue) (w : Value) → Dead ≡ ind_join f op.op Dead w
-dead_left f op w = refl
-
 dead_right : (f : Field) (op : OpValue) (v : Value) → Dead ≡ ind_join f op.op v Dead
 dead_right f op Dead = refl
 dead_right f op (Span t rows) = refl

@@ -10,7 +10,7 @@ ghost use Rattle.mm_present.specs.Ordering.{IsPlaceBelow};
 
 use crate::Named;
 use crate::dependencies::first_given_outside;
-use crate::images::are_present_inside;
+use crate::images::are_seen_inside;
 use crate::present::matrix_of;
 use indexmap::IndexSet;
 use mm_base::{Name, NameList, NoMemory};
@@ -45,8 +45,8 @@ fn set_of(alloc: Global, names: &NameList) -> Result<IndexSet<Name>, NoMemory>
     Ok(set)
 }
 
-/// The first of the names that is not in the set.
-fn first_missing(names: &NameList, others: &IndexSet<Name>) -> Option<Name>
+/// The first of the names that is not in the set. None exactly where all are.
+pub fn first_missing(names: &NameList, others: &IndexSet<Name>) -> Option<Name>
     ensures { result ≡ first_missing names.now others.now.keys }
 {
     for k in 0..names.len() {
@@ -92,11 +92,7 @@ fn digits_at(alloc: Global, row: &[u8], places: &[Option<usize>]) -> Result<Vec<
 /// The rows with their columns in another order.
 fn in_order(alloc: Global, rows: &Matrix, places: &[Option<usize>]) -> Result<Matrix, NoMemory>
     requires { All (λ place. IsPlaceBelow rows.now.cols place) places.now }
-    ensures { IfOk result (λ m. m ≡ record {
-      f = rows.now.f;
-      cols = length places.now;
-      rows = map (λ row. map (digit_at row) places.now) rows.now.rows;
-    }) }
+    ensures { IfOk result (λ m. m ≡ record { f = rows.now.f; cols = length places.now; rows = map (λ row. map (digit_at row) places.now) rows.now.rows }) }
 {
     let mut ordered = Matrix::new(alloc, rows.field(), places.len());
     for i in 0..rows.rows() {
@@ -128,7 +124,7 @@ fn compare_rows(alloc: Global, given: &Matrix, tree: &Tree) -> Result<Verdict, N
     if let Some(i) = first_given_outside(alloc, given, tree)? {
         return Ok(Verdict::Given(i + 1));
     }
-    if are_present_inside(alloc, given, tree)? {
+    if are_seen_inside(alloc, given, tree)? {
         return Ok(Verdict::Same);
     }
     let present = matrix_of(alloc, tree)?;

@@ -165,11 +165,7 @@ fn images_of(
 }
 
 /// Whether all rows of the tree's matrix make zero of each vector that is orthogonal to the given rows: then they are in their space.
-pub(crate) fn are_present_inside(
-    alloc: Global,
-    given: &Matrix,
-    tree: &Tree,
-) -> Result<bool, NoMemory>
+fn are_present_inside(alloc: Global, given: &Matrix, tree: &Tree) -> Result<bool, NoMemory>
     requires field { given.now.f ≡ tree.now.f }
     requires columns { given.now.cols ≡ shapes.size (shape tree.now.tree) }
     ensures { IfOk result (λ b. b ≡ true →
@@ -192,4 +188,30 @@ pub(crate) fn are_present_inside(
         &mut zero,
     )?;
     Ok(zero && are_zero_from(&images, 0))
+}
+
+/// How many internal rows the matrix of a node has, as far as a number counts.
+fn count_internal(node: &Node) -> usize {
+    match node {
+        Node::Leaf(_) => 0,
+        Node::Join(_, op, left, right) => {
+            let below = count_internal(left).saturating_add(count_internal(right));
+            below.saturating_add(op.c() as usize)
+        }
+    }
+}
+
+/// Whether all rows of the tree's matrix are seen to be in the space of the given rows. It is tried only where the tree's matrix has
+/// more than twice as many rows as columns: a smaller one is soon made, and the vectors that are orthogonal to the given rows may
+/// take more memory.
+pub(crate) fn are_seen_inside(alloc: Global, given: &Matrix, tree: &Tree) -> Result<bool, NoMemory>
+    requires field { given.now.f ≡ tree.now.f }
+    requires columns { given.now.cols ≡ shapes.size (shape tree.now.tree) }
+    ensures { IfOk result (λ b. b ≡ true →
+        None ≡ first_outside given.now.f given.now.cols (present_rows tree.now.f tree.now.tree) given.now.rows) }
+{
+    if count_internal(tree.node()) / 2 <= given.cols() {
+        return Ok(false);
+    }
+    are_present_inside(alloc, given, tree)
 }

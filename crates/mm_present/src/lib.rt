@@ -12,6 +12,6 @@ mod join_rows;
 mod present;
 mod vectors;
 
-pub use comparison::{Verdict, compare};
+pub use comparison::{Verdict, compare, first_missing};
 pub use independence::is_independent;
 pub use present::{Named, matrix_of};

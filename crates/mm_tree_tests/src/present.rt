@@ -88,6 +88,20 @@ fn tree_of_pairs(alloc: Global) -> Option<Tree> {
     builder.finish().ok()
 }
 
+/// The tree with the elements a, b and c whose matrix has ten zero rows: a and b are joined with twelve internal digits.
+fn tree_of_many_rows(alloc: Global) -> Option<Tree>
+    ensures { IfSome result (λ tree. tree.f ≡ Two) }
+{
+    let apart = (&b"0100000000000"[..], &b"0010000000000"[..]);
+    let mut builder = Builder::new(alloc, Field::Two);
+    add(alloc, &mut builder, b"a")?;
+    add(alloc, &mut builder, b"b")?;
+    join(alloc, &mut builder, 1, 12, apart, None)?;
+    add(alloc, &mut builder, b"c")?;
+    join(alloc, &mut builder, 0, 1, (b"1", b"1"), None)?;
+    builder.finish().ok()
+}
+
 /// How rows over three different names compare with a tree.
 fn compared(
     alloc: Global,
@@ -139,6 +153,24 @@ fn the_first_difference_is_found(rt: HostRuntime) -> Result<(), Fail> {
     let others = (&b"a"[..], &b"d"[..], &b"e"[..]);
     let d = Name::read(b"d").ok_or("a name")?;
     assert_eq!(rt; compared(alloc, others, rows, &tree)?, Verdict::Elements(d));
+    Ok(())
+}
+
+#[test]
+fn a_matrix_with_more_rows_than_columns(rt: HostRuntime) -> Result<(), Fail> {
+    let alloc = rt.alloc();
+    let tree = tree_of_many_rows(alloc).ok_or("a tree")?;
+    let names = (&b"a"[..], &b"b"[..], &b"c"[..]);
+    let mut rows = Matrix::new(alloc, Field::Two, 3);
+    rows.push_row(alloc, &[1, 1, 0])?;
+    rows.push_row(alloc, &[0, 1, 0])?;
+    rows.push_row(alloc, &[0, 1, 1])?;
+    assert_eq!(rt; compared(alloc, names, rows, &tree)?, Verdict::Same);
+    let mut rows = Matrix::new(alloc, Field::Two, 3);
+    rows.push_row(alloc, &[1, 0, 0])?;
+    rows.push_row(alloc, &[0, 1, 0])?;
+    assert_eq!(rt; compared(alloc, names, rows, &tree)?, Verdict::Present(1));
+    assert!(rt; is_independent(alloc, &tree)?);
     Ok(())
 }
 

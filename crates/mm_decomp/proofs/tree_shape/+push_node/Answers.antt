@@ -1,8 +1,6 @@
-use Rattle.std.proofs.Common.{rules, sym, ap, subst, ◌∙◌, ◌≡◌, ◌++◌, ◌∷◌, [], Bool, true, false}
+use Rattle.std.proofs.Common.{rules, sym, subst}
 use Rattle.std.specs.Prelude.{IfOk}
-use Rattle.mm_tree.specs.Nodes.{named}
-use Rattle.mm_decomp.specs.TreeShapes.{element_shape, Follows}
-use Rattle.mm_decomp.specs.declared.shape.Step.TheVariants as steps
+use Rattle.mm_decomp.specs.TreeShapes.{Follows}
 use Rattle.mm_decomp.proofs.TreeShapeLemmas.{node_leaf, without_left, without_right, with_both}
 use Rattle.mm_decomp.proofs.tree_shape.+push_node.Goals as goal
 

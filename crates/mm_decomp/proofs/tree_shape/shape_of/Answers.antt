@@ -1,6 +1,4 @@
-use Rattle.std.proofs.Common.{rules, sym, ap, subst, ◌∙◌, ◌≡◌, ◌++◌, [], Bool, true, false}
-use Rattle.mm_decomp.specs.TreeShapes.{element_shape, Follows}
-use Rattle.mm_decomp.proofs.TreeShapeLemmas.{HasShape, has_shape, tree_steps, shape_there, shape_missing, first_steps}
+use Rattle.mm_decomp.proofs.TreeShapeLemmas.{first_steps}
 use Rattle.mm_decomp.proofs.tree_shape.shape_of.Goals as goal
 
 pub of-requires : goal.of-requires

@@ -1,5 +1,5 @@
 use Rattle.std.proofs.Common.{arith}
-use Rattle.mm_decomp.proofs.HeaderTextLemmas.{generator_more, generator_done}
+use Rattle.mm_decomp.proofs.HeaderTextLemmas.{generator_more}
 use Rattle.mm_decomp.proofs.write.append_generator.Goals as goal
 
 pub loop-k-preserved : goal.loop-k-preserved

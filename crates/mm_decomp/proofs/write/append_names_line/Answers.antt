@@ -1,4 +1,4 @@
-use Rattle.std.proofs.Common.{◌++◌, ◌*◌, ap, ap₂, ◌∙◌, arith}
+use Rattle.std.proofs.Common.{◌++◌, ◌*◌, ap₂, ◌∙◌, arith}
 use Rattle.std.proofs.lemmas.Result.{on_ok_weaker}
 use Rattle.mm_decomp.proofs.HeaderTextLemmas.{line_starts, name_more, names_end}
 use Rattle.mm_decomp.proofs.write.append_names_line.Goals as goal

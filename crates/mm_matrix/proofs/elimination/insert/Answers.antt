@@ -1,6 +1,7 @@
-use Rattle.std.proofs.Common.{ℕ, ◌≡◌, ◌≤◌, List, ◌∷◌, length, map, sym, ap, ◌∙◌, subst, arith}
+use Rattle.std.proofs.Common.{ℕ, ◌≡◌, ◌≤◌, List, ◌∷◌, length, map, take, sym, ap, ◌∙◌, subst, arith}
 use Rattle.std.proofs.lemmas.List.{length-map}
-use Rattle.mm_field.specs.Vectors.{SameRowSpace}
+use Rattle.mm_field.specs.Vectors.{zeros, SameRowSpace}
+use Rattle.mm_matrix.proofs.LeadLemmas.{zero_before}
 use Rattle.mm_linear.specs.Eliminate.{cleared}
 use Rattle.mm_linear.proofs.PivotLemmas.{count_leads}
 use Rattle.mm_matrix.specs.Residues.{AreReduced, IsPlaceOf}
@@ -66,3 +67,8 @@ returns-clause-span c =
     ∙ rows-insert (cleared f p w) rows c.clear_first.new.rows.items place c.args.new.digits in_rows cleared_rows in
     subst (λ (x : List (List ℕ)). SameRowSpace f n (w ∷ rows) x) (sym more)
     (span-with_row f n p place w rows c.requires.new.vector c.requires.reduced.each)
+
+pub clear_first-requires-clause-start : goal.clear_first-requires-clause-start
+clear_first-requires-clause-start c =
+    subst (λ (x : List ℕ). take c.args.new.lead x ≡ zeros c.args.new.lead) (sym c.deref-2.ensures.value)
+    (zero_before c.args.new.lead c.args.new.digits.items c.requires.new.lead)

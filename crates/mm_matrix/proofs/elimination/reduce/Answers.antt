@@ -1,6 +1,7 @@
-use Rattle.std.proofs.Common.{ℕ, ◌<◌, ◌≡◌, ◌+◌, [], length, get_or, map, sym, ap, ap₂, ◌∙◌, subst, arith, List}
+use Rattle.std.proofs.Common.{ℕ, ◌<◌, ◌≡◌, ◌+◌, [], length, get_or, map, take, sym, ap, ap₂, ◌∙◌, subst, arith, List}
 use Rattle.std.proofs.lemmas.List.{length-map, get_or_default}
-use Rattle.mm_field.specs.Vectors.{IsVector}
+use Rattle.mm_field.specs.Vectors.{zeros, IsVector}
+use Rattle.mm_matrix.proofs.LeadLemmas.{zero_before_lead}
 use Rattle.mm_linear.specs.Eliminate.{cleared}
 use Rattle.mm_linear.proofs.LeftUnique.{leads_above}
 use Rattle.mm_linear.proofs.PivotLemmas.{count_leads}
@@ -60,3 +61,18 @@ returns c =
     let done : c.loop-i.i ≡ length (map digits_of c.args.rows.now.items) = omega (arith, m) in
     rest_at_end c.args.f (length c.args.v.now) (map digits_of c.args.rows.now.items) c.args.leads.now.items c.args.v.now c.loop-i.v c.requires.leads
     (subst (λ (i : ℕ). IsResidueUpTo c.args.f (length c.args.v.now) (map digits_of c.args.rows.now.items) c.args.leads.now.items c.args.v.now c.loop-i.v i) done c.loop-i.invariant)
+
+pub clear_row-requires-clause-start : goal.clear_row-requires-clause-start
+clear_row-requires-clause-start c =
+    let rows = map digits_of c.args.rows.now.items in
+    let ks = c.args.leads.now.items in
+    let i = c.loop-i.i in
+    let l : i < length c.args.rows.now.items = omega arith in
+    let m = length-map c.args.rows.now.items digits_of in
+    let e = count_leads (length c.args.v.now) 0 rows ks c.requires.leads in
+    let is_row : get_or rows i [] ≡ c.deref.result.now =
+    item_is c.args.rows.now.items i c.index-in-loop-i.result.now l c.index-in-loop-i.ensures ∙ sym c.deref.ensures.value in
+    let is_lead : get_or ks i 0 ≡ c.index.result.now = get_or_default ks i 0 c.index.result.now (omega (arith, e, m)) ∙ sym c.index.ensures in
+    subst (λ (k : ℕ). take k c.deref.result.now ≡ zeros k) is_lead
+    (subst (λ (v : List ℕ). take (get_or ks i 0) v ≡ zeros (get_or ks i 0)) is_row
+    (zero_before_lead (length c.args.v.now) 0 rows ks c.requires.leads i 0 (omega (arith, e, m))))

@@ -1,4 +1,4 @@
-use Rattle.std.proofs.Common.{rules, sym, subst, ◌∙◌, ◌≡◌, None}
+use Rattle.std.proofs.Common.{rules, ◌≡◌, None}
 use Rattle.mm_decomp.proofs.StepLineLemmas.{refuses, leaf_refused, leaf_taken}
 use Rattle.mm_decomp.specs.BuildLines.{leaf_line}
 use Rattle.mm_decomp.specs.BuildStates.{step_lines}
