@@ -57,7 +57,7 @@ passes_there [] id d l p e = absurd (omega (arith, l))
 passes_there (v ∷ vs) zero d l p e = or_here (p v) _ e
 passes_there (v ∷ vs) (suc id) d l p e = or_later (p v) _ (passes_there vs id d (omega (arith, l)) p e)
 
-types_within : (F : Formula) (lists : List (List Value)) (rows : List Row) → AreWithin F lists (shown rows) → IsWithin (types_of (held F lists rows)) (root F lists)
+pub types_within : (F : Formula) (lists : List (List Value)) (rows : List Row) → AreWithin F lists (shown rows) → IsWithin (types_of (held F lists rows)) (root F lists)
 types_within F lists [] h p e = cc
 types_within F lists (r ∷ rows) h p e =
     one_or (p (type_at F lists r.id)) _ _ (passes_there (root F lists) r.id Dead h.0 p) (types_within F lists rows h.1 p) e
