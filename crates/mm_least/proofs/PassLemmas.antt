@@ -22,7 +22,7 @@ use Rattle.mm_nodes.proofs.RoomLemmas.{root-grows, exact-then, exact-cells, with
 use Rattle.mm_least.specs.declared.row.Row.{Row}
 use Rattle.mm_least.specs.declared.row.Origin.{Origin}
 use Rattle.mm_least.specs.declared.row.Origin.TheVariants.{Out}
-use Rattle.mm_least.specs.RowLaws.{types_within}
+use Rattle.mm_least.specs.RowLaws.{types_within, held-stays, within-stays}
 use Rattle.mm_least.specs.Rows.{put_row, Puts, AddsRow, shown}
 use Rattle.mm_least.proofs.RowLemmas.{adds_in_place}
 use Rattle.mm_least.specs.Candidates.{Candidate, candidate, put, held}
@@ -161,15 +161,6 @@ module _ (F : Formula) (lists : List (List Value)) (different : Different (root 
       by true true e i rest = subst (λ ss. AreWithin F lists (shown ss)) (sym (λ k. at_place (e k) (i k))) (last rows h.1)
       by true false e i rest = subst (λ ss. AreWithin F lists (shown ss)) (sym (λ k. at_place (e k) (i k))) h
       by false less e i rest = subst (λ ss. AreWithin F lists (shown ss)) (sym (λ k. at_place (e k) (i k))) (h.0, rest)
-
--- rows hold the same where the lists grow
-pub held-stays : (F : Formula) (olds nows : List (List Value)) (rows : List Row) → AllBegin olds nows → AreWithin F olds (shown rows) → held F nows rows ≡ held F olds rows
-held-stays F olds nows [] b h = refl
-held-stays F olds nows (r ∷ rows) b h = (λ i. candidate (type_at-begins F olds nows r.id b h.0 i) r.weight r.origin ∷ held-stays F olds nows rows b h.1 i)
-
-pub within-stays : (F : Formula) (olds nows : List (List Value)) (ps : List (ℕ × ℤ)) → AllBegin olds nows → AreWithin F olds ps → AreWithin F nows ps
-within-stays F olds nows [] b h = tt
-within-stays F olds nows (p ∷ ps) b h = (within-begins F olds nows p.0 b h.0, within-stays F olds nows ps b h.1)
 
 pub held-length : (F : Formula) (lists : List (List Value)) (rows : List Row) → length (held F lists rows) ≡ length rows
 held-length F lists rows = length-map rows (λ r. candidate (type_at F lists r.id) r.weight r.origin)
