@@ -1,0 +1,5 @@
+pub mod ExchangeLemmas
+pub mod WeightLemmas
+pub mod BesideLemmas
+pub mod PlaceLemmas
+pub mod KeptLemmas

@@ -1,0 +1,5 @@
+pub mod FormulaCode
+pub mod SessionValue
+pub mod KeptTypes
+pub mod Edits
+pub mod SessionView
