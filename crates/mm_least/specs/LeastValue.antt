@@ -12,6 +12,7 @@ use Rattle.mm_nodes.specs.declared.kept.Kept.{Kept}
 use Rattle.mm_least.specs.NodeRowsValue.{NodeValue, node_code}
 use Rattle.mm_least.specs.Rows.{shown}
 use Rattle.mm_least.specs.Passes.{AreWithin}
+use Rattle.mm_least.specs.LeastSets.{AreLinked}
 
 -- An automaton, the limit, and the rows of each node, in the shape of the tree.
 pub record LeastValue (A : Type 0) : Type 0 where
@@ -27,7 +28,8 @@ least_code {A} code =
     code_by (A × (ℕ × KeptTree NodeValue)) (coded× code (coded× coded_ℕ (kept_code no_rows node_code))) (λ v. (v.automaton, (v.limit, v.rows)))
     (λ p. record { automaton = p.0; limit = p.1.0; rows = p.1.1 }) (λ _. refl)
 
--- All is settled, and the numbers of the root's rows are in the list of the root.
+-- All is settled, the numbers of the root's rows are in the list of the root, and each row comes from rows that are there.
 pub record IsKept (F : Formula) (lists marked : List (List Value)) (limit : ℕ) (kept : Kept NodeValue) : Type 0 where
   pub settled : IsSettled (λ n. length n.rows) F lists marked limit kept
   pub within : AreWithin F lists (shown (top (tree_of kept)).rows)
+  pub links : AreLinked (tree_of kept)

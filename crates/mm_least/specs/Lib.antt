@@ -5,5 +5,6 @@ pub mod Passes
 pub mod NodeRowsValue
 pub mod RowCalls
 pub mod RowLaws
-pub mod LeastValue
 pub mod LeastCalls
+pub mod LeastSets
+pub mod LeastValue

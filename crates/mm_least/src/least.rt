@@ -9,9 +9,11 @@ ghost use Rattle.mm_tree.specs.Places.{IsPlaceOf, path_of};
 ghost use Rattle.mm_nodes.specs.declared.TheConstants.{MAX_LIMIT};
 ghost use Rattle.mm_nodes.specs.declared.keeps.KeepFault.TheVariants.{Full};
 ghost use Rattle.mm_least.specs.LeastCalls.{KeepRows, IsFullOfRows, StandBeside};
+ghost use Rattle.mm_least.specs.LeastSets.{IsBestOfRows};
 
-use crate::{LeastFault, NodeRows};
-use mm_base::Steps;
+use crate::best::{add_names, best_place};
+use crate::{Best, LeastFault, NodeRows};
+use mm_base::{NameList, NoMemory, Steps};
 use mm_nodes::Kept;
 use mm_states::Automaton;
 use mm_tree::{Place, Tree};
@@ -108,6 +110,23 @@ impl<A: Automaton> Least<A> {
             place,
             steps,
         )
+    }
+
+    /// The least set of the tree that the rows stand for, among the sets whose type is accepted: the first by weight and then by leaf word.
+    /// None exactly where no set's type is accepted.
+    pub fn best(&self, alloc: Global) -> Result<Option<Best>, NoMemory>
+        ensures { IfOk result (λ best. IsBestOfRows (A.shape self.now.automaton) (A.lists self.now.automaton) self.now.rows best) }
+    {
+        let rows = &self.kept.entry().rows;
+        match best_place(&self.automaton, rows) {
+            Some(place) => {
+                let mut names = NameList::new(alloc);
+                add_names(alloc, &self.kept, place, &mut names)?;
+                let weight = rows[place].weight;
+                Ok(Some(Best { weight, names }))
+            }
+            None => Ok(None),
+        }
     }
 
     /// The automaton. No memory.

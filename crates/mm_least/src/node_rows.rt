@@ -35,8 +35,8 @@ use std::sync::ledger::Ledger;
 /// node, with one step, and never copied.
 #[derive(Drop)]
 pub struct NodeRows {
-    name: Option<Name>,
-    rows: Vec<Row>,
+    pub(crate) name: Option<Name>,
+    pub(crate) rows: Vec<Row>,
 }
 
 impl Model for NodeRows {

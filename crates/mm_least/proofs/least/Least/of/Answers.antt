@@ -9,6 +9,7 @@ use Rattle.mm_least.specs.LeastCalls.{KeepRows}
 use Rattle.mm_least.specs.LeastValue.{IsKept}
 use Rattle.mm_nodes.proofs.EmptyLemmas.{root_none, exact_empty, empty_cells}
 use Rattle.mm_least.specs.RowLaws.{top_within}
+use Rattle.mm_least.proofs.AnswerLemmas.{linked}
 use Rattle.mm_least.proofs.least.Least.of.Goals as goal
 
 pub of-requires-clause-exact : goal.of-requires-clause-exact
@@ -21,7 +22,7 @@ pub invariant_of-result : goal.invariant_of-result
 invariant_of-result g c =
     let lists = g.A.Automaton.lists c.of.new.automaton in
     subst (λ (F : Formula). IsKept F lists (g.A.Automaton.marked c.of.new.automaton) c.args.limit c.in-Ok.kept) (sym c.of.ensures.shape)
-    (record { settled = c.in-Ok.ensures.ok.settled; within = top_within (record { f = c.args.tree.now.f; F = g.A.Automaton.shape c.args.automaton; lists = lists }) c.args.tree.now.tree (tree_of c.in-Ok.kept) c.in-Ok.ensures.ok.stands })
+    (record { settled = c.in-Ok.ensures.ok.settled; within = top_within (record { f = c.args.tree.now.f; F = g.A.Automaton.shape c.args.automaton; lists = lists }) c.args.tree.now.tree (tree_of c.in-Ok.kept) c.in-Ok.ensures.ok.stands; links = linked c.args.tree.now.f (g.A.Automaton.shape c.args.automaton) lists c.args.tree.now.tree (tree_of c.in-Ok.kept) c.in-Ok.ensures.ok.stands })
 
 no_types : (F : Formula) (lists empty : List (List Value)) → lists ≡ empty → root F empty ≡ [] → root F lists ≡ []
 no_types F lists empty e n = subst (λ ls. root F ls ≡ []) (sym e) n

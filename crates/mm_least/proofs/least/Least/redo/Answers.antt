@@ -11,6 +11,7 @@ use Rattle.mm_least.specs.LeastValue.{LeastValue}
 use Rattle.mm_least.specs.LeastValue.{IsKept}
 use Rattle.mm_nodes.proofs.EmptyLemmas.{by_result, on_ok}
 use Rattle.mm_least.specs.RowLaws.{top_within}
+use Rattle.mm_least.proofs.AnswerLemmas.{linked}
 use Rattle.mm_least.proofs.least.Least.redo.Goals as goal
 
 pub invariant_of-self : goal.invariant_of-self
@@ -22,7 +23,7 @@ invariant_of-self g c =
     let limit = c.self.inside.limit in
     subst (λ (G : Formula). IsKept G lists marked limit kept) (sym c.redo.ensures.shape)
     (by_result {Q = IsKept F lists marked limit kept} c.redo.result c.redo.ensures.ok
-    (λ h. record { settled = h.settled; within = top_within (record { f = c.args.after.now.f; F = F; lists = lists }) c.args.after.now.tree (tree_of kept) h.stands })
+    (λ h. record { settled = h.settled; within = top_within (record { f = c.args.after.now.f; F = F; lists = lists }) c.args.after.now.tree (tree_of kept) h.stands; links = linked c.args.after.now.f F lists c.args.after.now.tree (tree_of kept) h.stands })
     c.redo.ensures.kept c.redo.ensures.lists c.redo.ensures.marked
     (λ a b d. subst (λ k. IsKept F lists marked limit k) (sym a) (subst (λ ls. IsKept F ls marked limit c.self.inside.kept) (sym b)
     (subst (λ ms. IsKept F (g.A.Automaton.lists c.self.inside.automaton) ms limit c.self.inside.kept) (sym d) c.self.invariant))))
