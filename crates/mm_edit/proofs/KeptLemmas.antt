@@ -1,5 +1,6 @@
 -- What a session keeps, through edits and rebuilds.
-use Rattle.std.proofs.Common.{ℕ, ◌≡◌, ◌<◌, ◌≤◌, ◌+◌, List, [], ◌∷◌, ◌++◌, length, refl, sym, ap, ◌∙◌, subst, arith, append-nil, sum_by, Option, Some, None}
+use Rattle.std.proofs.Common.{ℕ, ◌≡◌, ◌<◌, ◌≤◌, ◌+◌, List, [], ◌∷◌, ◌++◌, length, refl, sym, ap, ◌∙◌, subst, arith, append-nil, sum_by, true, false}
+use Rattle.std.specs.List.{list_any}
 use Rattle.mm_base.specs.Causes.{counted}
 use Rattle.mm_field.specs.declared.Field.{Field}
 use Rattle.mm_logic.specs.Formula.{Formula}
@@ -7,7 +8,7 @@ use Rattle.mm_logic.specs.Value.{Value}
 use Rattle.mm_logic.specs.Occurrence.{cells, fresh, nodes as parts, list_cells}
 use Rattle.mm_logic.specs.StateSize.{Query, asked}
 use Rattle.mm_logic.specs.Growth.{root, Grown}
-use Rattle.mm_logic.proofs.GrowthLemmas.{none_missing_cells}
+use Rattle.mm_logic.proofs.GrowthLemmas.{none_missing_cells, members-bag}
 use Rattle.mm_states.specs.Letters as letters
 use Rattle.mm_tree.specs.NamedTree.{Tree, shape}
 use Rattle.mm_tree.specs.TreeValue.{TreeValue}
@@ -49,28 +50,31 @@ keep_kept v before T limit h e m o = record {
   over = o;
 }
 
+over_alike : (v w : StatesValue) (T : TreeValue) → AreAlike v w → letters.IsOver (asked v.query) v.field T.f → letters.IsOver (asked w.query) w.field T.f
+over_alike v w T a o = subst (λ Q. letters.IsOver (asked Q) w.field T.f) (sym a.query) (subst (λ g. letters.IsOver (asked v.query) g T.f) (sym a.field) o)
+
 -- the kept types go on
-pub went_on : (v w : StatesValue) (f : Field) (T : Tree) (n : ℕ) → AreAlike v w → Keep w (types_of v) f T v.limit → Renewed v w f T n n
-went_on v w f T n a h =
-    let size : size_beside (types_of v) v.query f T ≤ v.limit = subst (λ Q. size_beside (types_of v) Q f T ≤ v.limit) a.query h.size in
-    let alone = size_alone (types_of v) v.query f T in
+pub went_on : (v w : StatesValue) (T : TreeValue) (n : ℕ) → AreAlike v w → v.limit ≤ MAX_LIMIT → letters.IsOver (asked v.query) v.field T.f → Keep w (types_of v) T.f T.tree v.limit → Renewed v w T n n
+went_on v w T n a m o h =
+    let size : size_beside (types_of v) v.query T.f T.tree ≤ v.limit = subst (λ Q. size_beside (types_of v) Q T.f T.tree ≤ v.limit) a.query h.size in
+    let alone = size_alone (types_of v) v.query T.f T.tree in
     record {
-      stand = h.stand;
+      kept = keep_kept w (types_of v) T v.limit h a.limit m (over_alike v w T a o);
       size = omega (arith, size, alone);
-      kept = record {
-        goes_on = λ fits. (subst (λ Q. Grown (types_of v) (types_of w) (made f Q (shape T))) a.query h.grown, refl);
+      types = record {
+        goes_on = λ fits. (subst (λ Q. Grown (types_of v) (types_of w) (made T.f Q (shape T.tree))) a.query h.grown, refl);
         rebuilt = λ full. absurd (omega (arith, size, full));
       };
     }
 
 -- all was made afresh
-pub went_afresh : (v w : StatesValue) (f : Field) (T : Tree) (n m : ℕ) → AreAlike v w → v.limit < size_beside (types_of v) v.query f T → Keep w [] f T v.limit → m ≡ counted n → Renewed v w f T n m
-went_afresh v w f T n m a full h c = record {
-  stand = h.stand;
-  size = subst (λ Q. size_beside [] Q f T ≤ v.limit) a.query h.size;
-  kept = record {
+pub went_afresh : (v w : StatesValue) (T : TreeValue) (n m : ℕ) → AreAlike v w → v.limit ≤ MAX_LIMIT → letters.IsOver (asked v.query) v.field T.f → v.limit < size_beside (types_of v) v.query T.f T.tree → Keep w [] T.f T.tree v.limit → m ≡ counted n → Renewed v w T n m
+went_afresh v w T n m a l o full h c = record {
+  kept = keep_kept w [] T v.limit h a.limit l (over_alike v w T a o);
+  size = subst (λ Q. size_beside [] Q T.f T.tree ≤ v.limit) a.query h.size;
+  types = record {
     goes_on = λ fits. absurd (omega (arith, fits, full));
-    rebuilt = λ exceeds. (subst (λ Q. Grown [] (types_of w) (made f Q (shape T))) a.query h.grown, c);
+    rebuilt = λ exceeds. (subst (λ Q. Grown [] (types_of w) (made T.f Q (shape T.tree))) a.query h.grown, c);
   };
 }
 
@@ -80,14 +84,15 @@ went_afresh v w f T n m a full h c = record {
 pub kept_again : (K types : List Value) → IsWithin types K → Grown K K types
 kept_again K types h = record { added = []; longer = sym (append-nil K); exactly = λ f. ap (sum_by f) (sym (fresh_none K types h)) }
 
-no_values : (vs : List Value) → sum_by (λ v. 1) vs ≡ 0 → vs ≡ []
-no_values [] e = refl
-no_values (v ∷ vs) e = let more : sum_by (λ v. 1) (v ∷ vs) ≡ 1 + sum_by (λ v. 1) vs = refl in absurd (omega (arith, e, more))
+nothing : (vs : List Value) → list_any (λ v. true) vs ≡ false → vs ≡ []
+nothing [] e = refl
+nothing (v ∷ vs) e = cc
 
 -- nothing was added
 pub same_types : (K K2 types : List Value) → IsWithin types K → Grown K K2 types → K2 ≡ K
 same_types K K2 types h g =
-    g.longer ∙ ap (λ vs. K ++ vs) (no_values g.added (g.exactly (λ v. 1) ∙ ap (sum_by (λ v. 1)) (fresh_none K types h))) ∙ append-nil K
+    let none : g.added ≡ [] = nothing g.added (members-bag g.added (fresh K types) g.exactly (λ v. true) ∙ ap (list_any (λ v. true)) (fresh_none K types h)) in
+    g.longer ∙ ap (λ vs. K ++ vs) none ∙ append-nil K
 
 -- the size of a tree whose types are kept
 pub size_again : (K : List Value) (Q : Query) (f : Field) (T : Tree) (limit : ℕ) → IsWithin (made f Q (shape T)) K → cells (asked Q) K + made_rows f Q (shape T) ≤ limit → size_beside K Q f T ≤ limit

@@ -1,5 +1,5 @@
 -- How sessions are kept.
-use Rattle.std.specs.Prelude.{◌≡◌, ◌≤◌, ◌+◌, ℕ, ℤ, true, List, [], length, Option, Some, None}
+use Rattle.std.specs.Prelude.{◌≡◌, ◌≤◌, ◌+◌, ℕ, ℤ, true, List, [], length, Option, Some, None, Result, Ok, Err}
 use Rattle.mm_field.specs.declared.Field.{Field}
 use Rattle.mm_logic.specs.Value.{Value}
 use Rattle.mm_logic.specs.Occurrence.{cells}
@@ -18,7 +18,14 @@ use Rattle.mm_edit.specs.declared.states.States.{States}
 use Rattle.mm_edit.specs.declared.states.States.TheVariants as kinds
 use Rattle.mm_edit.specs.SessionValue.{Entries, SessionValue}
 use Rattle.mm_edit.specs.SessionValue.Entries.{Runs, Rows}
+use Rattle.mm_nodes.specs.declared.keeps.KeepFault.{KeepFault}
+use Rattle.mm_least.specs.declared.best.Best.{Best}
+use Rattle.mm_edit.specs.declared.answer.Answer.{Answer}
+use Rattle.mm_edit.specs.declared.answer.Answer.TheVariants.{Least as LeastSet, Nothing}
+use Rattle.mm_edit.specs.declared.fault.EditFault.{EditFault}
 use Rattle.mm_edit.specs.KeptTypes.{StandFor, GoOn, size_beside}
+use Rattle.mm_edit.specs.Edits.{state_fault}
+use Rattle.mm_edit.specs.Answers.{IsAnswer}
 
 -- Runs or rows with their automaton: what is asked, the field, the values numbered at each node of the formula, and those at the last
 -- mark; the limit; and what the nodes keep.
@@ -61,12 +68,6 @@ pub record Keep (v : StatesValue) (before : List Value) (f : Field) (T : Tree) (
   pub grown : Grown before (types_of v) (made f v.query (shape T))
   pub size : size_beside before v.query f T ≤ limit
 
--- Runs or rows for T after an edit.
-pub record Renewed (v w : StatesValue) (f : Field) (T : Tree) (before after : ℕ) : Type 0 where
-  pub stand : Stand w f T
-  pub size : size_beside [] v.query f T ≤ v.limit
-  pub kept : GoOn v.query f T v.limit (types_of v) (types_of w) before after
-
 -- Between calls.
 pub record IsKept (v : StatesValue) (T : TreeValue) (limit : ℕ) : Type 0 where
   pub stand : Stand v T.f T.tree
@@ -75,6 +76,12 @@ pub record IsKept (v : StatesValue) (T : TreeValue) (limit : ℕ) : Type 0 where
   pub limits : v.limit ≡ limit
   pub limited : limit ≤ MAX_LIMIT
   pub over : letters.IsOver (asked v.query) v.field T.f
+
+-- Runs or rows for a tree after an edit.
+pub record Renewed (v w : StatesValue) (T : TreeValue) (before after : ℕ) : Type 0 where
+  pub kept : IsKept w T v.limit
+  pub size : size_beside [] v.query T.f T.tree ≤ v.limit
+  pub types : GoOn v.query T.f T.tree v.limit (types_of v) (types_of w) before after
 
 -- The element of this name has another weight in a tree than in the one for which runs or rows were kept.
 pub record IsReweighted (v : StatesValue) (name : List ℕ) (after : TreeValue) (limit : ℕ) : Type 0 where
@@ -85,8 +92,27 @@ pub record IsReweighted (v : StatesValue) (name : List ℕ) (after : TreeValue) 
   pub element : is_one_of name (element_names before) ≡ true
   pub tree : after.tree ≡ with_weight name weight before
 
+-- the steps on a way and at its end
+abbrev pub path_steps : Option Path → ℕ
+path_steps None = 0
+path_steps (Some path) = length path + 1
+
 -- the most steps of another weight
 abbrev pub reweigh_steps : Query → Option Path → ℕ
 reweigh_steps (Decide F) path = 0
-reweigh_steps (Least F) None = 0
-reweigh_steps (Least F) (Some path) = length path + 1
+reweigh_steps (Least F) path = path_steps path
+
+-- what an edit answers, by what became of runs or rows
+abbrev pub edited : Result (Unit {0}) KeepFault → Result (Unit {0}) EditFault
+edited (Ok u) = Ok tt
+edited (Err e) = Err (state_fault e)
+
+-- the answer for whatever tree runs or rows stand for
+abbrev pub IsAnswerOf : StatesValue → Answer → Type 0
+IsAnswerOf v answer = (f : Field) (T : Tree) → StandFor v.query f v.lists T v.entries → IsAnswer v.query f T answer
+
+-- the answer of a least set, if there is one
+abbrev pub IsLeastAnswer : Option Best → Answer → Type 0
+IsLeastAnswer (Some best) (LeastSet set) = set ≡ best
+IsLeastAnswer None Nothing = Unit {0}
+IsLeastAnswer _ _ = ⊥

@@ -3,7 +3,6 @@
 ghost use Rattle.std.specs.Prelude.{◌≡◌};
 ghost use Rattle.mm_edit.specs.Edits.{edit_fault, start_fault, state_fault};
 
-
 use mm_base::Name;
 use mm_nodes::KeepFault;
 use mm_tree::ReplaceFault;

@@ -5,11 +5,13 @@
 //! the limit. Every refusal leaves all as it was, want of memory in the middle of an edit included.
 #![tactic(auto)]
 
+mod answer;
 mod fault;
 mod query;
 mod session;
 mod states;
 
+pub use answer::Answer;
 pub use fault::{EditFault, StartFault};
 pub use query::Query;
 pub use session::Session;

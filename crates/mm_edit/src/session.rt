@@ -16,13 +16,14 @@ ghost use Rattle.mm_nodes.specs.declared.keeps.KeepFault.TheVariants.{Full};
 ghost use Rattle.mm_edit.specs.declared.fault.EditFault.TheVariants as fault;
 ghost use Rattle.mm_edit.specs.KeptTypes.{IsOver, IsSettled, StandBeside, size_beside};
 ghost use Rattle.mm_edit.specs.SessionValue.{kept_types};
-ghost use Rattle.mm_edit.specs.SessionView.{states_value, types_of, AreAlike, Keep, Renewed};
+ghost use Rattle.mm_edit.specs.SessionView.{states_value, types_of, AreAlike, Keep, Renewed, edited};
+ghost use Rattle.mm_edit.specs.Answers.{IsAnswer};
 ghost use Rattle.mm_edit.specs.Edits.{Edits, Starts, exchanged, reweighted, most_steps, no_node, query_of, rebuild_steps, IsDecided, answer_of};
 
 use crate::fault::{edit_fault, start_fault, state_fault};
 use crate::states::States;
-use crate::{EditFault, Query, StartFault};
-use mm_base::{Name, Steps};
+use crate::{Answer, EditFault, Query, StartFault};
+use mm_base::{Name, NoMemory, Steps};
 use mm_nodes::KeepFault;
 use mm_states::Automaton;
 use mm_tree::{Place, Tree};
@@ -122,8 +123,8 @@ fn redo_or_rebuild<A: Automaton, L: Ledger>(
     ensures alike { AreAlike (states_value A.Automaton states.old) (states_value A.Automaton states.new) }
     ensures ticks { steps.new ≤ steps.old + size + place.now.depth + rebuild_steps (types_of (states_value A.Automaton states.old))
         (states_value A.Automaton states.old).query after.now.f after.now.tree limit }
-    ensures ok { OnOk result (Renewed (states_value A.Automaton states.old) (states_value A.Automaton states.new) after.now.f
-        after.now.tree rebuilds.old rebuilds.new) }
+    ensures ok { OnOk result (Renewed (states_value A.Automaton states.old) (states_value A.Automaton states.new) after.now
+        rebuilds.old rebuilds.new) }
     ensures err { OnErr result (states_value A.Automaton states.new ≡ states_value A.Automaton states.old) }
     ensures stays { OnErr result (rebuilds.new ≡ rebuilds.old) }
     ensures full { IfErr result (λ e. e ≡ Full → IsOver (states_value A.Automaton states.old).query after.now.f after.now.tree limit) }
@@ -132,6 +133,30 @@ fn redo_or_rebuild<A: Automaton, L: Ledger>(
         Ok(()) => Ok(()),
         Err(KeepFault::Full) => rebuild(alloc, states, rebuilds, limit, after, steps),
         Err(KeepFault::NoMemory) => Err(KeepFault::NoMemory),
+    }
+}
+
+/// Puts the old node back at a place where an edit was refused.
+fn put_back(tree: &mut Tree, place: &Place, old: Tree, kept: &Result<(), KeepFault>)
+    requires place { IsPlaceOf tree.old.tree place.now }
+    requires field { old.f ≡ tree.old.f }
+    requires fits { replace_fault tree.old.tree (path_of place.now.number tree.old.tree) old.tree ≡ None }
+    ensures ok { OnOk kept.now (tree.new ≡ tree.old) }
+    ensures field { tree.new.f ≡ tree.old.f }
+    ensures err { OnErr kept.now (tree.new.tree ≡ with_node tree.old.tree (path_of place.now.number tree.old.tree) old.tree) }
+{
+    if kept.is_err() {
+        tree.splice(place, old);
+    }
+}
+
+/// What an edit answers, by what became of runs or rows.
+fn edited(kept: Result<(), KeepFault>) -> Result<(), EditFault>
+    ensures { result ≡ edited kept }
+{
+    match kept {
+        Ok(()) => Ok(()),
+        Err(fault) => Err(state_fault(fault)),
     }
 }
 
@@ -198,15 +223,21 @@ impl<A: Automaton> Session<A> {
         requires place { IsPlaceOf self.old.tree.tree place.now }
         requires field { new.f ≡ self.old.tree.f }
         requires fits { replace_fault self.old.tree.tree (path_of place.now.number self.old.tree.tree) new.tree ≡ None }
-        ensures edits { Edits self.old self.new (Ok (record { tree = with_node self.old.tree.tree
-            (path_of place.now.number self.old.tree.tree) new.tree; cost = place.now.depth + nodes new.tree })) result }
-        ensures ticks { steps.new ≤ steps.old + most_steps self.old (Ok (record { tree = with_node self.old.tree.tree
-            (path_of place.now.number self.old.tree.tree) new.tree; cost = place.now.depth + nodes new.tree })) }
+        ensures edits { Edits self.old self.new (Ok (record {
+          tree = with_node self.old.tree.tree
+              (path_of place.now.number self.old.tree.tree) new.tree;
+          cost = place.now.depth + nodes new.tree;
+        })) result }
+        ensures ticks { steps.new ≤ steps.old + most_steps self.old (Ok (record {
+          tree = with_node self.old.tree.tree
+              (path_of place.now.number self.old.tree.tree) new.tree;
+          cost = place.now.depth + nodes new.tree;
+        })) }
     {
         trees_are_valid(&self.tree);
         let size = new.nodes();
         let old = self.tree.splice(place, new);
-        match redo_or_rebuild(
+        let result = redo_or_rebuild(
             alloc,
             &mut self.states,
             &mut self.rebuilds,
@@ -215,13 +246,9 @@ impl<A: Automaton> Session<A> {
             place,
             size,
             steps,
-        ) {
-            Ok(()) => Ok(()),
-            Err(fault) => {
-                let _ = self.tree.splice(place, old);
-                Err(state_fault(fault))
-            }
-        }
+        );
+        put_back(&mut self.tree, place, old, &result);
+        edited(result)
     }
 
     /// Gives the element of a name another weight. `UnknownName` exactly where no element has the name. Never `States`: the types are those
@@ -265,13 +292,18 @@ impl<A: Automaton> Session<A> {
         trees_are_valid(&self.tree);
         let before = self.tree.weight_of(name);
         self.tree.set_weight(name, weight);
-        match self.states.reweigh(alloc, &self.tree, name, steps) {
-            Ok(()) => Ok(()),
-            Err(fault) => {
-                self.tree.set_weight(name, before);
-                Err(state_fault(fault))
-            }
+        let result = self.states.reweigh(alloc, &self.tree, name, steps);
+        if result.is_err() {
+            self.tree.set_weight(name, before);
         }
+        edited(result)
+    }
+
+    /// What is asked, answered for the present tree: whether the formula holds; or the least set that satisfies it, or that there is none.
+    pub fn answer(&self, alloc: Global) -> Result<Answer, NoMemory>
+        ensures { IfOk result (λ answer. IsAnswer self.now.query self.now.tree.f self.now.tree.tree answer) }
+    {
+        self.states.answer(alloc)
     }
 
     /// The present tree. No memory.

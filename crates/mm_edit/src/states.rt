@@ -14,10 +14,11 @@ ghost use Rattle.mm_nodes.specs.declared.keeps.KeepFault.TheVariants.{Full};
 ghost use Rattle.mm_edit.specs.KeptTypes.{StandBeside, size_beside};
 ghost use Rattle.mm_edit.specs.declared.states.States.TheVariants as kinds;
 ghost use Rattle.mm_edit.specs.Edits.{query_of, IsDecided};
-ghost use Rattle.mm_edit.specs.SessionView.{states_value, types_of, AreAlike, Keep, IsReweighted, reweigh_steps};
+ghost use Rattle.mm_edit.specs.SessionView.{states_value, types_of, AreAlike, Keep, IsAnswerOf, IsReweighted, path_steps, reweigh_steps};
 
-use crate::Query;
-use mm_base::{Name, Steps};
+use crate::answer::{decided, sought};
+use crate::{Answer, Query};
+use mm_base::{Name, NoMemory, Steps};
 use mm_least::Least;
 use mm_nodes::KeepFault;
 use mm_runs::Runs;
@@ -90,6 +91,28 @@ fn renew_rows<A: Automaton, L: Ledger>(
             Err(fault) => Err(fault),
         },
         Err(_) => Err(KeepFault::NoMemory),
+    }
+}
+
+/// New rows for the leaf of an element that has another weight, and above it. After a refusal all is as before.
+fn reweigh_rows<A: Automaton, L: Ledger>(
+    alloc: Global,
+    rows: &mut Least<A>,
+    after: &Tree,
+    name: &Name,
+    steps: &mut Steps<L>,
+) -> Result<(), KeepFault>
+    requires reweighted { IsReweighted (states_value A.Automaton (kinds.Rows rows.old)) name.now after.now rows.old.limit }
+    ensures alike { AreAlike (states_value A.Automaton (kinds.Rows rows.old)) (states_value A.Automaton (kinds.Rows rows.new)) }
+    ensures ticks { steps.new ≤ steps.old + path_steps (path_to name.now after.now.tree) }
+    ensures ok { OnOk result (Keep (states_value A.Automaton (kinds.Rows rows.new)) (types_of (states_value A.Automaton (kinds.Rows rows.old)))
+        after.now.f after.now.tree rows.old.limit) }
+    ensures err { OnErr result (states_value A.Automaton (kinds.Rows rows.new) ≡ states_value A.Automaton (kinds.Rows rows.old)) }
+    ensures fits { result ≡ Err Full → ⊥ }
+{
+    match after.place(name, 0) {
+        Some(place) => rows.redo(alloc, after, &place, 1, steps),
+        None => Err(KeepFault::NoMemory),
     }
 }
 
@@ -197,9 +220,19 @@ impl<A: Automaton> States<A> {
     {
         match self {
             States::Runs(_) => Ok(()),
-            States::Rows(rows) => match after.place(name, 0) {
-                Some(place) => rows.redo(alloc, after, &place, 1, steps),
-                None => Err(KeepFault::NoMemory),
+            States::Rows(rows) => reweigh_rows(alloc, rows, after, name, steps),
+        }
+    }
+
+    /// The answer for the tree that runs or rows stand for.
+    pub(crate) fn answer(&self, alloc: Global) -> Result<Answer, NoMemory>
+        ensures { IfOk result (λ answer. IsAnswerOf (states_value A.Automaton self.now) answer) }
+    {
+        match self {
+            States::Runs(runs) => Ok(decided(runs.truth())),
+            States::Rows(rows) => match rows.best(alloc) {
+                Ok(best) => Ok(sought(best)),
+                Err(fault) => Err(fault),
             },
         }
     }
