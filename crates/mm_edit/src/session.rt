@@ -7,7 +7,7 @@ ghost use Rattle.mm_logic.specs.Occurrence.{cells};
 ghost use Rattle.mm_logic.specs.StateSize.{asked};
 ghost use Rattle.mm_states.specs.Letters as letters;
 ghost use Rattle.mm_tree.specs.NamedTree.{nodes, element_names, is_one_of};
-ghost use Rattle.mm_tree.specs.Paths.{node_at, with_node};
+ghost use Rattle.mm_tree.specs.Paths.{node_at, with_node, with_weight};
 ghost use Rattle.mm_tree.specs.Replacing.{replace_fault};
 ghost use Rattle.mm_tree.specs.Places.{IsPlaceOf, path_of};
 ghost use Rattle.mm_tree.specs.ValidTree.{most_weight, IsValidTree};
@@ -147,6 +147,19 @@ fn put_back(tree: &mut Tree, place: &Place, old: Tree, kept: &Result<(), KeepFau
 {
     if kept.is_err() {
         tree.splice(place, old);
+    }
+}
+
+/// Gives an element the weight before where an edit was refused.
+fn put_weight_back(tree: &mut Tree, name: &Name, before: i64, kept: &Result<(), KeepFault>)
+    requires element { is_one_of name.now (element_names tree.old.tree) ≡ true }
+    requires light { nat_abs before ≤ most_weight }
+    ensures ok { OnOk kept.now (tree.new ≡ tree.old) }
+    ensures field { tree.new.f ≡ tree.old.f }
+    ensures err { OnErr kept.now (tree.new.tree ≡ with_weight name.now before tree.old.tree) }
+{
+    if kept.is_err() {
+        tree.set_weight(name, before);
     }
 }
 
@@ -293,9 +306,7 @@ impl<A: Automaton> Session<A> {
         let before = self.tree.weight_of(name);
         self.tree.set_weight(name, weight);
         let result = self.states.reweigh(alloc, &self.tree, name, steps);
-        if result.is_err() {
-            self.tree.set_weight(name, before);
-        }
+        put_weight_back(&mut self.tree, name, before, &result);
         edited(result)
     }
 

@@ -216,7 +216,7 @@ impl<A: Automaton> States<A> {
             after.now.tree (states_value A.Automaton self.old).limit) }
         ensures err { OnErr result (states_value A.Automaton self.new ≡ states_value A.Automaton self.old) }
         ensures fits { result ≡ Err Full → ⊥ }
-        ensures decided { IsDecided (states_value A.Automaton self.old).query → result ≡ Ok tt }
+        ensures decided { IsDecided (states_value A.Automaton self.old).query → (result ≡ Ok tt) × (steps.new ≡ steps.old) }
     {
         match self {
             States::Runs(_) => Ok(()),
