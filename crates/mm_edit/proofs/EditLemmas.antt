@@ -177,3 +177,6 @@ reweigh_types v w T mid name weight limit (Err e) a k f e2 h p = ap types_of p
 pub asked_of : (kind : Kind) (F : Formula) → asked (query_of kind F) ≡ F
 asked_of kinds.Decide F = refl
 asked_of kinds.Least F = refl
+
+pub more_steps : (a b c d : ℕ) → a ≤ b + c → a ≤ b + (c + d)
+more_steps a b c d h = omega (arith, h)
