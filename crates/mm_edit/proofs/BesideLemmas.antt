@@ -1,6 +1,5 @@
 -- What the nodes keep stands beside the place of an edit.
-use Rattle.std.proofs.Common.{ℕ, ℤ, ◌≡◌, Bool, true, false, List, [], ◌∷◌, Option, Some, None, if◌then◌else◌}
-use Rattle.std.specs.List.{IsDistinct}
+use Rattle.std.proofs.Common.{ℕ, ℤ, Bool, true, false, List, [], ◌∷◌, if◌then◌else◌}
 use Rattle.std.specs.Str.{bytes_eq}
 use Rattle.mm_field.specs.declared.Field.{Field}
 use Rattle.mm_logic.specs.Formula.{Formula}
@@ -8,9 +7,9 @@ use Rattle.mm_logic.specs.Operator.{Op}
 use Rattle.mm_logic.specs.Value.{Value}
 use Rattle.mm_logic.specs.StateSize.{Query}
 use Rattle.mm_logic.specs.StateSize.Query.{Decide, Least}
-use Rattle.mm_tree.specs.NamedTree.{Tree, shape, leaf_names}
+use Rattle.mm_tree.specs.NamedTree.{Tree, shape}
 use Rattle.mm_tree.specs.NamedTree.Tree.{Elem, Void, Join}
-use Rattle.mm_tree.specs.Paths.{Path, path_to, with_node, with_weight}
+use Rattle.mm_tree.specs.Paths.{Path, with_node, with_weight}
 use Rattle.mm_tree.specs.Places.{IsPath}
 use Rattle.mm_nodes.specs.KeptTrees.{KeptTree, StandsFor, StandsBeside}
 use Rattle.mm_nodes.specs.KeptTrees.KeptTree.{One, Two}

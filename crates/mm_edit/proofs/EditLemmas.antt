@@ -1,5 +1,5 @@
 -- What an edit does to a session.
-use Rattle.std.proofs.Common.{◌≡◌, ◌<◌, ◌≤◌, ◌+◌, ℕ, ℤ, Bool, true, false, if◌then◌else◌, List, length, refl, sym, ap, ◌∙◌, subst, arith, Option, Some, None, Result, Ok, Err}
+use Rattle.std.proofs.Common.{◌≡◌, ◌≤◌, ◌+◌, ℕ, ℤ, true, if◌then◌else◌, List, length, refl, sym, ap, ◌∙◌, subst, arith, Option, Some, None, Result, Ok, Err}
 use Rattle.std.specs.Prelude.{OnOk, OnErr, IfErr}
 use Rattle.mm_field.specs.declared.Field.{Field}
 use Rattle.mm_logic.specs.Formula.{Formula}
@@ -57,12 +57,14 @@ same_session v w T x n m a b c = λ i. session_value (a i) (b i) (c i)
 pub edit_done : (v w : StatesValue) (T mid x : TreeValue) (U : Tree) (n m limit cost : ℕ) (r : Result (Unit {0}) KeepFault) → AreAlike v w → IsKept v T limit → mid ≡ record { f = T.f; tree = U }
     → OnOk r (Renewed v w mid n m) → OnErr r (w ≡ v) → OnErr r (m ≡ n) → IfErr r (λ e. e ≡ Full → IsOver v.query mid.f mid.tree limit) → OnOk r (x ≡ mid) → OnErr r (x ≡ T)
     → IsKept w x limit × Edits (session_value v T n) (session_value w x m) (Ok (record { tree = U; cost = cost })) (edited r)
-edit_done v w T mid x U n m limit cost (Ok u) a k e h p q full s t =
-    (subst (λ y. IsKept w y limit) (sym s) (subst (λ l. IsKept w mid l) k.limits h.kept),
-    subst (λ y. Accepted (session_value v T n) (session_value w y m) U) (sym (s ∙ e)) (accepted v w T U n m a (subst (λ y. Renewed v w y n m) e h)))
-edit_done v w T mid x U n m limit cost (Err Full) a k e h p q full s t =
-    (subst (λ y. IsKept w y limit) (sym t) (subst (λ z. IsKept z T limit) (sym p) k),
-    (same_session v w T x n m p t q, refl, subst (λ l. IsOver v.query T.f U l) (sym k.limits) (subst (λ (y : TreeValue). IsOver v.query y.f y.tree limit) e (full refl))))
+edit_done v w T mid x U n m limit cost (Ok u) a k e h p q full s t = (
+  subst (λ y. IsKept w y limit) (sym s) (subst (λ l. IsKept w mid l) k.limits h.kept),
+  subst (λ y. Accepted (session_value v T n) (session_value w y m) U) (sym (s ∙ e)) (accepted v w T U n m a (subst (λ y. Renewed v w y n m) e h)),
+)
+edit_done v w T mid x U n m limit cost (Err Full) a k e h p q full s t = (
+  subst (λ y. IsKept w y limit) (sym t) (subst (λ z. IsKept z T limit) (sym p) k),
+  (same_session v w T x n m p t q, refl, subst (λ l. IsOver v.query T.f U l) (sym k.limits) (subst (λ (y : TreeValue). IsOver v.query y.f y.tree limit) e (full refl))),
+)
 edit_done v w T mid x U n m limit cost (Err NoMemory) a k e h p q full s t =
     (subst (λ y. IsKept w y limit) (sym t) (subst (λ z. IsKept z T limit) (sym p) k), same_session v w T x n m p t q)
 

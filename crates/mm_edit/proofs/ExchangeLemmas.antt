@@ -1,8 +1,8 @@
 -- A node that is exchanged, and exchanged back.
-use Rattle.std.proofs.Common.{ℕ, ℤ, zero, suc, ◌≡◌, ◌<◌, ◌≤◌, ◌+◌, ◌-◌, ◌==◌, ◌||◌, ◌++◌, Bool, true, false, List, [], ◌∷◌, length, refl, sym, ap, ap₂, ◌∙◌, subst, Option, Some, None, if◌then◌else◌, arith, ◌⊎◌, inl, inr}
+use Rattle.std.proofs.Common.{ℕ, zero, suc, ◌≡◌, ◌<◌, ◌≤◌, ◌-◌, ◌==◌, ◌||◌, ◌++◌, Bool, true, false, List, [], ◌∷◌, length, refl, sym, ap, ap₂, ◌∙◌, subst, Some, None, if◌then◌else◌, arith, ◌⊎◌, inl, inr}
 use Rattle.std.specs.List.{IsDistinct}
 use Rattle.std.specs.Str.{bytes_eq}
-use Rattle.std.proofs.lemmas.Bool.{cases_lt, eqb-true, eq-eqb, both_ways, or_left, or_right, or_parts}
+use Rattle.std.proofs.lemmas.Bool.{cases_lt, eqb-true, eq-eqb, both_ways, or_left, or_right}
 use Rattle.mm_base.proofs.NameLemmas.{bytes_same}
 use Rattle.mm_field.specs.declared.Field.{Field}
 use Rattle.mm_tree.specs.NamedTree.{Tree, boundary, leaf_names, depth, nodes, is_one_of}
@@ -13,7 +13,6 @@ use Rattle.mm_tree.specs.Replacing.{first_taken, replace_fault}
 use Rattle.mm_tree.specs.ValidTree.{IsValidTree, most_leaves, most_depth}
 use Rattle.mm_tree.specs.declared.place.Place.{Place}
 use Rattle.mm_tree.specs.declared.replace.ReplaceFault.{ReplaceFault}
-use Rattle.mm_tree.specs.declared.replace.ReplaceFault.TheVariants.{Boundary}
 use Rattle.mm_tree.proofs.NameLemmas.{AreApart, one_of_append, distinct_left, distinct_right, distinct_apart}
 use Rattle.mm_tree.proofs.PathLemmas.{nodes_join, some_nodes}
 use Rattle.mm_tree.proofs.ReplaceLemmas.{path_is, fault_free, fault_boundary}

@@ -1,5 +1,5 @@
 -- What a session keeps, through edits and rebuilds.
-use Rattle.std.proofs.Common.{ℕ, ◌≡◌, ◌<◌, ◌≤◌, ◌+◌, List, [], ◌∷◌, ◌++◌, length, refl, sym, ap, ◌∙◌, subst, arith, append-nil, sum_by, true, false}
+use Rattle.std.proofs.Common.{ℕ, ◌≡◌, ◌<◌, ◌≤◌, ◌+◌, List, [], ◌∷◌, ◌++◌, refl, sym, ap, ◌∙◌, subst, arith, append-nil, sum_by, true, false}
 use Rattle.std.specs.List.{list_any}
 use Rattle.mm_base.specs.Causes.{counted}
 use Rattle.mm_field.specs.declared.Field.{Field}
@@ -14,10 +14,10 @@ use Rattle.mm_tree.specs.NamedTree.{Tree, shape}
 use Rattle.mm_tree.specs.TreeValue.{TreeValue}
 use Rattle.mm_nodes.specs.declared.TheConstants.{MAX_LIMIT}
 use Rattle.mm_nodes.specs.Demands.{IsExact, IsWithin, made, made_rows}
-use Rattle.mm_nodes.proofs.RoomLemmas.{within-append, within-left, within-right, within-then, within-same, same-within, within-cells, grown-members, exact-cells}
+use Rattle.mm_nodes.proofs.RoomLemmas.{within-append, within-right, within-then, within-same, same-within, within-cells, grown-members, exact-cells}
 use Rattle.mm_nodes.proofs.KeptTypeLemmas.{fresh_none}
-use Rattle.mm_edit.specs.KeptTypes.{GoOn, size_beside, IsOver}
-use Rattle.mm_edit.specs.SessionView.{StatesValue, Stand, AreAlike, Keep, Renewed, IsKept, types_of}
+use Rattle.mm_edit.specs.KeptTypes.{size_beside}
+use Rattle.mm_edit.specs.SessionView.{StatesValue, AreAlike, Keep, Renewed, IsKept, types_of}
 
 -- the size of a tree alone is no more than beside other types
 pub size_alone : (before : List Value) (Q : Query) (f : Field) (T : Tree) → size_beside [] Q f T ≤ size_beside before Q f T

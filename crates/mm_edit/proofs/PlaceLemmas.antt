@@ -2,7 +2,7 @@
 use Rattle.std.proofs.Common.{ℕ, ◌≡◌, ◌-◌, nat_le, Bool, true, false, List, [], ◌∷◌, length, take, refl, sym, ap, ◌∙◌, subst, Option, Some, None, if◌then◌else◌, arith}
 use Rattle.std.proofs.lemmas.Bool.{le-leb}
 use Rattle.mm_tree.specs.NamedTree.{Tree}
-use Rattle.mm_tree.specs.Paths.{Path, path_to, number_at}
+use Rattle.mm_tree.specs.Paths.{Path, path_to}
 use Rattle.mm_tree.specs.Places.{path_of, IsPath, path_above, less_steps, place_at, place_at_end}
 use Rattle.mm_tree.specs.declared.place.Place.{Place}
 use Rattle.mm_tree.proofs.PlaceLemmas.{path_of_number, path_to_leaf, path_front}

@@ -1,5 +1,5 @@
 -- Runs and rows: what is kept, and what it answers.
-use Rattle.std.proofs.Common.{◌≡◌, ◌<◌, ◌≤◌, ◌+◌, ◌++◌, ℕ, ℤ, Bool, true, false, if◌then◌else◌, List, [], ◌∷◌, length, refl, sym, ap, ◌∙◌, subst, Option, Some, None, Result, Ok, Err, arith}
+use Rattle.std.proofs.Common.{◌≡◌, ◌<◌, ◌≤◌, ◌+◌, ◌++◌, ℕ, ℤ, Bool, true, false, if◌then◌else◌, List, [], ◌∷◌, sym, ap, ◌∙◌, subst, Option, Some, None, Result, Ok, Err, arith}
 use Rattle.std.specs.Prelude.{IfErr}
 use Rattle.mm_field.specs.declared.Field.{Field}
 use Rattle.mm_logic.specs.Formula.{Formula}
@@ -9,12 +9,12 @@ use Rattle.mm_logic.specs.JoinRule.{all_pairs, join_type}
 use Rattle.mm_logic.specs.Acceptance.{accepts}
 use Rattle.mm_logic.specs.Growth.{Grown, type_at}
 use Rattle.mm_logic.specs.Occurrence.{cells}
-use Rattle.mm_logic.specs.StateSize.{Query, asked}
+use Rattle.mm_logic.specs.StateSize.{asked}
 use Rattle.mm_logic.specs.StateSize.Query.{Decide, Least}
 use Rattle.mm_states.specs.declared.automaton.Automaton.{Ghosts}
-use Rattle.mm_tree.specs.NamedTree.{Tree, shape, nodes}
+use Rattle.mm_tree.specs.NamedTree.{Tree, shape}
 use Rattle.mm_tree.specs.NamedTree.Tree.{Elem, Void, Join}
-use Rattle.mm_tree.specs.Paths.{Path, path_to, node_at, with_weight}
+use Rattle.mm_tree.specs.Paths.{Path, path_to, with_weight}
 use Rattle.mm_tree.specs.TreeValue.{TreeValue}
 use Rattle.mm_nodes.specs.declared.keeps.KeepFault.{KeepFault}
 use Rattle.mm_nodes.specs.declared.keeps.KeepFault.TheVariants.{Full}
@@ -36,10 +36,10 @@ use Rattle.mm_edit.specs.declared.answer.Answer.TheVariants.{Yes, No, Least as L
 use Rattle.mm_edit.specs.declared.states.States.TheVariants as kinds
 use Rattle.mm_edit.specs.Answers.{IsAnswer, decided_type}
 use Rattle.mm_edit.specs.KeptTypes.{size_beside}
-use Rattle.mm_edit.specs.SessionView.{Keep, StatesValue, Stand, IsKept, IsReweighted, IsLeastAnswer, states_value, types_of}
+use Rattle.mm_edit.specs.SessionView.{Keep, StatesValue, IsReweighted, IsLeastAnswer, states_value, types_of}
 use Rattle.mm_edit.proofs.BesideLemmas.{runs_reweighted}
 use Rattle.mm_edit.proofs.KeptLemmas.{kept_again, size_again}
-use Rattle.mm_edit.proofs.WeightLemmas.{one_node, ways_stay, shape_stays, reweighted_beside}
+use Rattle.mm_edit.proofs.WeightLemmas.{ways_stay, shape_stays, reweighted_beside}
 
 pub keep_runs : {A : Type 0} (K : Ghosts A) (r : RunsValue A) (F : Formula) (before : List Value) (f : Field) (T : Tree) (limit : ℕ) → K.shape r.automaton ≡ F
     → KeepRuns F before (K.lists r.automaton) (K.marked r.automaton) f T limit r.runs → Keep (states_value K (kinds.Runs r)) before f T limit

@@ -2,7 +2,7 @@
 use Rattle.std.specs.Prelude.{ℕ, zero, suc, ◌≡◌, Bool, List, [], ◌∷◌, ◌++◌}
 use Rattle.std.proofs.Common.{refl, sym, ap, ◌∙◌, append_assoc, append-nil, ◌⊎◌, inl, inr}
 use Rattle.std.specs.Coded.{Coded, code_by, coded×, coded⊎, coded_ℕ, coded_bool, coded_list}
-use Rattle.mm_logic.specs.Formula.{Formula, Connective, Term}
+use Rattle.mm_logic.specs.Formula.{Formula, Connective}
 use Rattle.mm_logic.specs.Formula.Formula.{Const, Ind, Member, SameElem, Sub, SameSet, Not, Bin, ExSet, AllSet, ExElem, AllElem}
 use Rattle.mm_logic.specs.Formula.Connective.{And, Or, Implies, Iff}
 use Rattle.mm_logic.specs.StateSize.{Query}

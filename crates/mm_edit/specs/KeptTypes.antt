@@ -6,7 +6,7 @@ use Rattle.mm_logic.specs.Value.{Value}
 use Rattle.mm_logic.specs.Occurrence.{cells}
 use Rattle.mm_logic.specs.StateSize.{Query, asked}
 use Rattle.mm_logic.specs.StateSize.Query.{Decide, Least}
-use Rattle.mm_logic.specs.Growth.{root, Grown}
+use Rattle.mm_logic.specs.Growth.{Grown}
 use Rattle.mm_tree.specs.NamedTree.{Tree, shape}
 use Rattle.mm_tree.specs.Paths.{Path}
 use Rattle.mm_nodes.specs.Demands.{IsExact, IsWithin, made, made_rows}

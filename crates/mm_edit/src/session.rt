@@ -168,7 +168,7 @@ fn edited(kept: Result<(), KeepFault>) -> Result<(), EditFault>
     ensures { result ≡ edited kept }
 {
     match kept {
-        Ok(()) => Ok(()),
+        Ok(done) => Ok(done),
         Err(fault) => Err(state_fault(fault)),
     }
 }

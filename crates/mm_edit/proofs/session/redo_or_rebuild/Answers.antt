@@ -1,4 +1,4 @@
-use Rattle.std.proofs.Common.{◌≡◌, ◌<◌, ◌≤◌, [], sym, subst}
+use Rattle.std.proofs.Common.{◌≡◌, ◌≤◌, [], sym, subst}
 use Rattle.std.specs.Prelude.{IfErr}
 use Rattle.mm_nodes.specs.declared.TheConstants.{MAX_LIMIT}
 use Rattle.mm_nodes.specs.declared.keeps.KeepFault.TheVariants.{Full}

@@ -1,4 +1,4 @@
-use Rattle.std.proofs.Common.{◌≡◌, ◌<◌, ◌≤◌, ◌+◌, ◌∙◌, subst, arith}
+use Rattle.std.proofs.Common.{◌≡◌, ◌∙◌, subst, arith}
 use Rattle.mm_logic.specs.Occurrence.{cells}
 use Rattle.mm_logic.specs.StateSize.{asked}
 use Rattle.mm_edit.specs.SessionValue.{kept_types}

@@ -1,4 +1,4 @@
-use Rattle.std.proofs.Common.{◌≡◌, ◌<◌, [], sym, ap, ◌∙◌, subst}
+use Rattle.std.proofs.Common.{◌<◌, [], sym, ap, ◌∙◌, subst}
 use Rattle.mm_logic.specs.StateSize.Query.{Decide, Least}
 use Rattle.mm_edit.specs.Edits.{query_of}
 use Rattle.mm_edit.specs.KeptTypes.{size_beside}
