@@ -76,6 +76,7 @@ meet_is f n A B hA hB v hv =
       multiples = λ c u hu tu. (is_in_span_decides f n A (multiple f c u) hA (IsVector-multiple f n c u hu.len)).1
           (InSpan-multiple f n c A u ((is_in_span_decides f n A u hA hu).0 tu));
     }
+
     both_closed : (p q : List ℕ → Bool) → IsClosed f n p → IsClosed f n q → IsClosed f n (λ v. p v && q v)
     both_closed p q a b = record {
       zero_in = and_from (p (zeros n)) (q (zeros n)) a.zero_in b.zero_in;
@@ -87,6 +88,7 @@ meet_is f n A B hA hB v hv =
           let x = and_parts (p u) (q u) tu in
           and_from (p (multiple f c u)) (q (multiple f c u)) (a.multiples c u hu x.0) (b.multiples c u hu x.1);
     }
+
     closed : IsClosed f n (λ v. is_in_span f n A v && is_in_span f n B v)
     closed = both_closed (λ v. is_in_span f n A v) (λ v. is_in_span f n B v) (one A hA) (one B hB)
 

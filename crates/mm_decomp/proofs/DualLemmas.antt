@@ -128,10 +128,10 @@ module _ (given : Given) (tree : Tree) (h : IsOfTree given tree) where
       let hb = hB i [] li in
       let o = (orthogonal_rows_span f n given.rows b hb).0 (IsWithin-itself f n B hB i [] li) in
       λ j c lj.
-          let lm : j < length given.rows = (let q = length-map given.rows (in_order given.names E) in omega arith) in
-          ap₂ (dot f) (get_or-map (in_order given.names E) given.rows j [] c lm) (get_or-map (in_order given.names E) B i [] d li)
-          ∙ dot_in_order given.names E h.names f (get_or given.rows j []) b (h.rows j [] lm).len hb.len
-          ∙ o j [] lm
+      let lm : j < length given.rows = (let q = length-map given.rows (in_order given.names E) in omega arith) in
+      ap₂ (dot f) (get_or-map (in_order given.names E) given.rows j [] c lm) (get_or-map (in_order given.names E) B i [] d li)
+      ∙ dot_in_order given.names E h.names f (get_or given.rows j []) b (h.rows j [] lm).len hb.len
+      ∙ o j [] lm
 
   -- and what is orthogonal to the given rows is a combination of those of the dual
   pub orthogonal_in_dual : (x : List ℕ) → IsVector f e x → IsOrthogonal f M x → InSpan f e O x

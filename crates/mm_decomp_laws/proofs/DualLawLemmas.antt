@@ -55,14 +55,14 @@ trees_are_dual given tree s h e =
     record {
       elements = elements;
       exactly = λ x hx. (
-          (λ p.
-              let q = InSpan-within f n (present_rows f made) O x (dual_vectors given tree o) same.1 p in
-              orthogonal_within f n (present_rows f tree) M x (given_vectors given tree o) o.space.1 (orthogonal_to_given given tree o x q)),
-          (λ p.
-              let q = orthogonal_within f n M (present_rows f tree) x (tree_vectors given tree o) o.space.0 p in
-              let r = orthogonal_in_dual given tree o x hx q in
-              InSpan-within f n O (present_rows f made) x (vectors_within f n (present_rows f made) O (dual_vectors given tree o) same.1) same.0 r),
-        );
+        (λ p.
+            let q = InSpan-within f n (present_rows f made) O x (dual_vectors given tree o) same.1 p in
+            orthogonal_within f n (present_rows f tree) M x (given_vectors given tree o) o.space.1 (orthogonal_to_given given tree o x q)),
+        (λ p.
+            let q = orthogonal_within f n M (present_rows f tree) x (tree_vectors given tree o) o.space.0 p in
+            let r = orthogonal_in_dual given tree o x hx q in
+            InSpan-within f n O (present_rows f made) x (vectors_within f n (present_rows f made) O (dual_vectors given tree o) same.1) same.0 r),
+      );
     }
 
 pub duals_are_narrow : DualsAreNarrow

@@ -42,12 +42,16 @@ extended_is f n base (v ∷ vs) hb hr ind =
   where
     hv : IsVector f n v
     hv = first_row f n v vs hr
+
     hs : AreVectors f n vs
     hs = other_rows f n v vs hr
+
     none : AreVectors f n []
     none = All-nil (λ v. IsVector f n v)
+
     one : AreVectors f n (v ∷ [])
     one = All-cons (λ v. IsVector f n v) v [] hv none
+
     go : ((b : List (List ℕ)) → AreVectors f n b → AreIndependent f n b → IsExtension f n b vs (extended f n b vs)) →
         (b : Bool) → is_in_span f n base v ≡ b → IsExtension f n base (v ∷ vs) (extended f n (if b then base else base ++ v ∷ []) vs)
     go ih true t =

@@ -103,13 +103,19 @@ pub record AreFrames (f : Field) (n : ℕ) (list basis1 inner1 basis2 inner2 : L
 -- what is in both is zero where the first part is in the boundary and the rest in the inner vectors
 pub in_front : (f : Field) (n : ℕ) (A B : List (List ℕ)) → AreVectors f n A → AreVectors f n B → (v : List ℕ) → InSpan f n A v → InSpan f n (A ++ B) v
 in_front f n A B hA hB v p = append_from_InSum f n A B v hB (record {
-  one = v; other = zeros n; in_first = p; in_second = InSpan-zeros f n B hB;
+  one = v;
+  other = zeros n;
+  in_first = p;
+  in_second = InSpan-zeros f n B hB;
   sum = vector_sum-zeros f n v (subst (λ u. IsVector f n u) p.sum (IsVector-combination f n p.coefficients A hA));
 })
 
 pub in_back : (f : Field) (n : ℕ) (A B : List (List ℕ)) → AreVectors f n A → AreVectors f n B → (v : List ℕ) → InSpan f n B v → InSpan f n (A ++ B) v
 in_back f n A B hA hB v p = append_from_InSum f n A B v hB (record {
-  one = zeros n; other = v; in_first = InSpan-zeros f n A hA; in_second = p;
+  one = zeros n;
+  other = v;
+  in_first = InSpan-zeros f n A hA;
+  in_second = p;
   sum = zeros-vector_sum f n v (subst (λ u. IsVector f n u) p.sum (IsVector-combination f n p.coefficients B hB));
 })
 

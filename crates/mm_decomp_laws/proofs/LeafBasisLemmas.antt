@@ -58,6 +58,7 @@ first_digit_of_multiple f g c k u hu l hc ne e =
   where
     times_one : (f : Field) (c : ℕ) → c < order f → times f c 1 ≡ c
     times_one f c hc = times_one_digit f c hc
+
     times_zero : (f : Field) (c : ℕ) → times f c 0 ≡ 0
     times_zero f c = ap (λ (v : List ℕ). get_or v 0 0) (multiple-zeros f c 1)
 

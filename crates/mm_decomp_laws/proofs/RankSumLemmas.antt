@@ -55,7 +55,9 @@ dimension_of_sum f n Z A B hZ hA hB ind za zb common =
   where
     back_of : (U V all : List (List ℕ)) → all ≡ U ++ V → AreVectors f n all → AreVectors f n V
     back_of U V all e h = subst (λ vs. AreVectors f n vs) (ap (drop (length U)) e ∙ drop_at U V (length U) refl) (All-drop (λ v. IsVector f n v) (length U) all h)
+
     fronts : (U V : List (List ℕ)) → AreVectors f n U → AreVectors f n V → IsWithin f n U (U ++ V)
     fronts U V hU hV = λ k d l. in_front f n U V hU hV (get_or U k d) (IsWithin-itself f n U hU k d l)
+
     z_front : (more all : List (List ℕ)) → all ≡ Z ++ more → AreVectors f n all → IsWithin f n Z all
     z_front more all e h = subst (λ vs. IsWithin f n Z vs) (sym e) (fronts Z more hZ (back_of Z more all e h))

@@ -147,8 +147,15 @@ stands_for_join f g L R s b1 b2 given1 given2 hL hR hs is ws common =
     let frame : s ++ inner ≡ list ++ ii = sym (append_assoc s x.more ii) ∙ ap (λ (l : List (List ℕ)). l ++ ii) (sym x.front) in
     let small = x.within rows hrows ws (IsWithin-itself f g rows hrows) in
     let frames : AreFrames f g list b1 i1 b2 i2 = record {
-      each = x.each; each1 = hL.each; each2 = hR.each; eachi1 = hL.each_inner; eachi2 = hR.each_inner;
-      independent = x.independent; independent1 = hL.independent; independent2 = hR.independent; small = small;
+      each = x.each;
+      each1 = hL.each;
+      each2 = hR.each;
+      eachi1 = hL.each_inner;
+      eachi2 = hR.each_inner;
+      independent = x.independent;
+      independent1 = hL.independent;
+      independent2 = hR.independent;
+      small = small;
       common = λ v p q. common v (InSpan-within f g (b1 ++ i1) given1 v hL.given_each hL.within p) (InSpan-within f g (b2 ++ i2) given2 v hR.given_each hR.within q);
     } in
     let ind1 = independent_back f g b1 i1 hL.each hL.each_inner hL.independent in
