@@ -1,6 +1,5 @@
 -- The boundary of a join is the connectivity of the columns below and outside it.
-use Rattle.std.proofs.Common.{ℕ, ◌+◌, ◌-◌, ◌<◌, ◌≡◌, true, List, [], ◌∷◌, ◌++◌, length, map, get_or, refl, sym, ap, ap₂, ◌∙◌, subst, arith}
-use Rattle.std.specs.List.{All}
+use Rattle.std.proofs.Common.{ℕ, ◌<◌, ◌≡◌, List, [], ◌∷◌, ◌++◌, length, get_or, sym, ap, ap₂, ◌∙◌, subst, arith}
 use Rattle.std.proofs.lemmas.List.{map-append}
 use Rattle.std.proofs.lemmas.List.Elements.{All-nil, All-append}
 use Rattle.mm_field.specs.declared.Field.{Field}
@@ -11,7 +10,7 @@ use Rattle.mm_decomp.specs.Shapes.{Shape, names}
 use Rattle.mm_decomp.specs.Shapes.Shape.{Leaf, Join}
 use Rattle.mm_decomp.specs.Spaces.{Given, boundaries, column_of, space}
 use Rattle.mm_decomp.proofs.GivenLemmas.{AreColumns, columns_of, named_columns}
-use Rattle.mm_decomp_laws.specs.Ranks.{IsOver, connectivities, connectivity, rank, rank_of, rank_of_column}
+use Rattle.mm_decomp_laws.specs.Ranks.{IsOver, connectivities, connectivity, rank, rank_of}
 use Rattle.mm_decomp_laws.proofs.IndependenceLemmas.{in_front, in_back}
 use Rattle.mm_decomp_laws.proofs.LeafBasisLemmas.{leaf_basis, count_first_digit}
 use Rattle.mm_decomp_laws.proofs.RankSumLemmas.{dimension_of_sum}

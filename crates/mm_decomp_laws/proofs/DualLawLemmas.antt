@@ -1,24 +1,23 @@
 -- The tree that is built for the dual is dual to the given tree.
-use Rattle.std.proofs.Common.{ℕ, ◌<◌, ◌≤◌, ◌≡◌, ◌↔◌, true, Option, Some, List, [], length, map, get_or, refl, sym, ap, ◌∙◌, subst}
+use Rattle.std.proofs.Common.{ℕ, ◌≡◌, true, Some, List, [], length, map, get_or, sym, ap, ◌∙◌, subst}
 use Rattle.std.specs.List.{All}
 use Rattle.mm_field.specs.declared.Field.{Field}
-use Rattle.mm_field.specs.Vectors.{IsVector, AreVectors, InSpan, IsWithin, SameRowSpace}
+use Rattle.mm_field.specs.Vectors.{AreVectors, IsWithin, SameRowSpace}
 use Rattle.mm_field.proofs.CombinationLemmas.{InSpan-within}
-use Rattle.mm_matrix.specs.Orthogonal.{dot, IsOrthogonal}
-use Rattle.mm_matrix.proofs.DotLemmas.{dot-comm, orthogonal_to_combination, orthogonal_within}
+use Rattle.mm_matrix.proofs.DotLemmas.{orthogonal_within}
 use Rattle.mm_present.specs.Comparing.{in_order, present_rows}
 use Rattle.mm_tree.proofs.ElementLemmas.{different_elements}
 use Rattle.mm_tree.specs.NamedTree.{Tree, element_names, is_one_of}
 use Rattle.mm_decomp.specs.BuiltTree.{built}
 use Rattle.mm_decomp.specs.Duals.{dual_of}
 use Rattle.mm_decomp.specs.Shapes.{Shape, names}
-use Rattle.mm_decomp.specs.Spaces.{Given, boundaries}
+use Rattle.mm_decomp.specs.Spaces.{Given}
 use Rattle.mm_decomp.specs.TreeShapes.{element_shape}
 use Rattle.mm_decomp.proofs.ClosedLemmas.{orthogonal_rows_reduced}
 use Rattle.mm_decomp.proofs.DualLemmas.{IsOfTree, of_compared, orthogonal_in_dual, orthogonal_to_given, dual_boundaries, given_vectors, dual_vectors, tree_vectors}
 use Rattle.mm_decomp.proofs.OrderLemmas.{all_there}
 use Rattle.mm_decomp.proofs.TreeShapeLemmas.{names_if, same_names}
-use Rattle.mm_decomp_laws.specs.DualLaws.{AreTheSame, AreDual, TreesOfDualsAreDual, DualsAreNarrow}
+use Rattle.mm_decomp_laws.specs.DualLaws.{AreTheSame, TreesOfDualsAreDual, DualsAreNarrow}
 use Rattle.mm_decomp_laws.specs.Ranks.{IsOver}
 use Rattle.mm_decomp_laws.proofs.RowSpaceLemmas.{built_law}
 use Rattle.mm_decomp_laws.proofs.SpaceLemmas.{vector_in}

@@ -1,11 +1,11 @@
 -- A list that is extended to the span of further rows.
-use Rattle.std.proofs.Common.{ℕ, suc, ◌<◌, ◌≤◌, ◌+◌, ◌≡◌, ◌↔◌, Bool, true, false, List, [], ◌∷◌, ◌++◌, length, take, get_or, refl, sym, ap, ap₂, subst, ◌∙◌, arith, append_assoc, append-nil, length-append, zero}
-use Rattle.std.specs.Prelude.{if◌then◌else◌, All}
+use Rattle.std.proofs.Common.{ℕ, ◌<◌, ◌≡◌, Bool, true, false, List, [], ◌∷◌, ◌++◌, length, get_or, refl, sym, ap, subst, ◌∙◌, arith, append_assoc, append-nil, length-append}
+use Rattle.std.specs.Prelude.{if◌then◌else◌}
 use Rattle.std.proofs.lemmas.List.{get_or_append_left, get_or_push}
 use Rattle.std.proofs.lemmas.List.Elements.{All-nil, All-cons, All-append, All-head, All-tail}
 use Rattle.mm_field.specs.declared.Field.{Field}
-use Rattle.mm_field.specs.Vectors.{IsVector, AreVectors, InSpan, AreIndependent, IsWithin, SameRowSpace}
-use Rattle.mm_field.proofs.CombinationLemmas.{first_row, other_rows, InSpan-first, InSpan-within, IsWithin-itself, IsWithin-within}
+use Rattle.mm_field.specs.Vectors.{IsVector, AreVectors, InSpan, AreIndependent, IsWithin}
+use Rattle.mm_field.proofs.CombinationLemmas.{first_row, other_rows, InSpan-within, IsWithin-itself}
 use Rattle.mm_linear.specs.Decide.{is_in_span}
 use Rattle.mm_decomp.specs.Meets.{extended}
 use Rattle.mm_linear.proofs.IndependenceLemmas.{independent_more}

@@ -1,5 +1,5 @@
 -- Independent rows side by side, and the vectors that the columns of a join are coordinates in.
-use Rattle.std.proofs.Common.{ℕ, ◌+◌, ◌<◌, ◌≡◌, List, [], ◌∷◌, ◌++◌, length, take, drop, refl, sym, ap, ap₂, subst, ◌∙◌, arith, length-append, take-append-drop}
+use Rattle.std.proofs.Common.{ℕ, ◌+◌, ◌≡◌, List, ◌++◌, length, take, drop, refl, sym, ap, ap₂, subst, ◌∙◌, length-append, take-append-drop}
 use Rattle.std.proofs.lemmas.List.{length-replicate}
 use Rattle.std.proofs.lemmas.List.Elements.{All-append}
 use Rattle.mm_field.specs.declared.Field.{Field}

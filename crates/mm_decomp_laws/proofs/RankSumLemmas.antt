@@ -1,16 +1,15 @@
 -- The dimensions of spans: of one within another, and of the sum and the meet of two.
-use Rattle.std.proofs.Common.{ℕ, zero, suc, ◌+◌, ◌<◌, ◌≤◌, ◌≡◌, ◌↔◌, true, Option, Some, None, List, [], ◌∷◌, ◌++◌, length, replicate, get_or, refl, sym, ap, ap₂, subst, ◌∙◌, arith, length-append, drop}
+use Rattle.std.proofs.Common.{ℕ, ◌+◌, ◌≡◌, List, ◌++◌, length, get_or, refl, sym, ap, subst, ◌∙◌, arith, length-append, drop}
 use Rattle.std.proofs.lemmas.List.Elements.{All-append, All-drop}
 use Rattle.std.proofs.lemmas.List.{drop_at}
 use Rattle.mm_field.specs.declared.Field.{Field}
-use Rattle.mm_field.specs.Vectors.{zeros, IsVector, AreVectors, InSpan, AreIndependent, IsWithin, SameRowSpace}
-use Rattle.mm_field.proofs.CombinationLemmas.{first_row, other_rows, InSpan-within, IsWithin-itself, IsWithin-within}
-use Rattle.mm_linear.specs.ReducedEchelon.{reduced_basis}
+use Rattle.mm_field.specs.Vectors.{IsVector, AreVectors, InSpan, AreIndependent, IsWithin, SameRowSpace}
+use Rattle.mm_field.proofs.CombinationLemmas.{InSpan-within, IsWithin-itself, IsWithin-within}
 use Rattle.mm_decomp.specs.Meets.{extended}
 use Rattle.mm_decomp_laws.specs.Ranks.{rank}
 use Rattle.mm_linear.proofs.ReducedEchelonLemmas.{reduced_basis-same}
 use Rattle.mm_matrix.proofs.DimensionLemmas.{dimension}
-use Rattle.mm_decomp_laws.proofs.ExtendLemmas.{IsExtension, extended_is}
+use Rattle.mm_decomp_laws.proofs.ExtendLemmas.{extended_is}
 use Rattle.mm_decomp_laws.proofs.IndependenceLemmas.{independent_beside, independent_back, apart, in_front, in_back}
 
 -- the rank of what independent rows span

@@ -1,29 +1,25 @@
 -- The matrix of the tree that is built has the given row space.
-use Rattle.std.proofs.Common.{ℕ, ◌+◌, ◌<◌, ◌≡◌, true, List, [], ◌∷◌, ◌++◌, length, map, get_or, refl, sym, ap, ap₂, ◌∙◌, subst, arith, append-nil, length-append, ext_get_or, zero-add}
-use Rattle.std.specs.List.{All, range_with_len, position}
-use Rattle.std.specs.Str.{bytes_eq}
-use Rattle.std.proofs.lemmas.List.{length-map, get_or-map, map-append}
-use Rattle.std.proofs.lemmas.List.FromFn.{get_or-range_with_len, length-range_with_len}
-use Rattle.std.proofs.lemmas.List.Elements.{All-nil, All-cons, All-head, All-tail, All-append}
+use Rattle.std.proofs.Common.{ℕ, ◌+◌, ◌≡◌, List, [], ◌∷◌, ◌++◌, length, map, get_or, refl, sym, ap, ap₂, ◌∙◌, subst, arith, append-nil, length-append}
+use Rattle.std.specs.List.{range_with_len}
+use Rattle.std.proofs.lemmas.List.{length-map, map-append}
+use Rattle.std.proofs.lemmas.List.Elements.{All-nil, All-cons, All-append}
 use Rattle.mm_field.specs.declared.Field.{Field}
 use Rattle.mm_field.specs.Vectors.{zeros, combination, times_matrix, IsVector, AreVectors, AreIndependent, IsWithin, SameRowSpace}
 use Rattle.mm_field.proofs.CombinationLemmas.{first_row, combination-times_matrix, combination-zeros, IsVector-combination}
-use Rattle.mm_linear.specs.ReducedEchelon.{reduced_basis}
 use Rattle.mm_linear.proofs.ReducedEchelonLemmas.{reduced_basis_is}
 use Rattle.mm_logic.specs.PresentMatrix.{columns, internal}
 use Rattle.mm_logic.specs.Tree as shapes
-use Rattle.mm_matrix.specs.Columns.{column}
 use Rattle.mm_matrix.proofs.FreeLemmas.{range_inside}
-use Rattle.mm_present.specs.Comparing.{digit_at, in_order, present_rows}
+use Rattle.mm_present.specs.Comparing.{in_order, present_rows}
 use Rattle.mm_decomp.proofs.OrthogonalLemmas.{inside_by_orthogonal}
-use Rattle.mm_tree.specs.NamedTree.{Tree, shape, element_names, is_one_of}
+use Rattle.mm_tree.specs.NamedTree.{Tree, shape, element_names}
 use Rattle.mm_decomp.specs.BuiltTree.{built, first_digit}
 use Rattle.mm_decomp.specs.Forms.{all_columns}
 use Rattle.mm_decomp.specs.Shapes.{Shape, names, joins}
 use Rattle.mm_decomp.specs.Shapes.Shape.{Leaf, Join}
-use Rattle.mm_decomp.specs.Spaces.{Given, column_of, place_in, space}
+use Rattle.mm_decomp.specs.Spaces.{Given, column_of, space}
 use Rattle.mm_decomp.proofs.BuildLemmas.{first_digit_digits}
-use Rattle.mm_decomp.proofs.FormLemmas.{zero_from_orthogonal, orthogonal_from_zero, length-all_columns}
+use Rattle.mm_decomp.proofs.FormLemmas.{zero_from_orthogonal, orthogonal_from_zero}
 use Rattle.mm_decomp.proofs.LeadLemmas.{AreVectors-columns}
 use Rattle.mm_decomp.proofs.GivenLemmas.{AreColumns, columns_of, named_columns, rows_in_order}
 use Rattle.mm_decomp_laws.specs.Ranks.{IsOver}

@@ -1,7 +1,6 @@
 -- The spaces of a decomposition: what those of the children of a join have to do with that of the join.
-use Rattle.std.proofs.Common.{ℕ, ℤ, ◌<◌, ◌≡◌, true, ◌&&◌, List, [], ◌∷◌, ◌++◌, length, map, filter, get_or, refl, sym, ap, ◌∙◌, subst, arith}
-use Rattle.std.specs.List.{All}
-use Rattle.std.proofs.lemmas.List.{length-map, get_or-map, map-append, take_at, drop_at}
+use Rattle.std.proofs.Common.{ℕ, ◌≡◌, ◌&&◌, List, [], ◌∷◌, ◌++◌, length, filter, get_or, refl, sym, ◌∙◌, subst}
+use Rattle.std.proofs.lemmas.List.{map-append, take_at, drop_at}
 use Rattle.std.proofs.lemmas.List.Elements.{All-append, All-filter, All-take, All-drop}
 use Rattle.mm_field.specs.declared.Field.{Field}
 use Rattle.mm_field.specs.Digits.{negative}
@@ -9,7 +8,7 @@ use Rattle.mm_field.specs.Vectors.{vector_sum, multiple, IsVector, AreVectors, I
 use Rattle.mm_field.proofs.VectorLemmas.{vector_sum_comm}
 use Rattle.mm_field.proofs.CombinationLemmas.{IsVector-combination, InSpan-multiple, InSpan-within, IsWithin-itself}
 use Rattle.mm_linear.specs.Decide.{is_in_span}
-use Rattle.mm_linear.specs.ReducedEchelon.{reduced_basis, IsReducedBasis}
+use Rattle.mm_linear.specs.ReducedEchelon.{IsReducedBasis}
 use Rattle.mm_linear.specs.Subspaces.{subspace, all_vectors}
 use Rattle.mm_linear.proofs.ReducedEchelonLemmas.{reduced_basis_is, reduced_basis-twice}
 use Rattle.mm_linear.proofs.SpanLemmas.{InSum-from_append, append_from_InSum}

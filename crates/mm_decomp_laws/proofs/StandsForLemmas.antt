@@ -1,28 +1,26 @@
 -- A join by a built operator stands for the given columns of both children.
-use Rattle.std.proofs.Common.{ℕ, zero, ◌+◌, ◌-◌, ◌<◌, ◌≤◌, ◌≡◌, List, [], ◌∷◌, ◌++◌, length, map, take, drop, get_or, refl, sym, ap, ap₂, subst, ◌∙◌, arith, length-append, take-append-drop, append_assoc}
-use Rattle.std.proofs.lemmas.List.{length-replicate, length-map, map-append, take_at, drop_at}
-use Rattle.std.specs.Prelude.{All}
+use Rattle.std.proofs.Common.{ℕ, ◌+◌, ◌-◌, ◌≡◌, List, [], ◌∷◌, ◌++◌, length, map, take, drop, get_or, refl, sym, ap, ap₂, subst, ◌∙◌, arith, length-append, take-append-drop, append_assoc}
+use Rattle.std.proofs.lemmas.List.{length-replicate, map-append, drop_at}
 use Rattle.std.proofs.lemmas.Simd.{map-map}
-use Rattle.std.proofs.lemmas.List.Elements.{All-nil, All-cons, All-head, All-tail, All-append, All-drop}
+use Rattle.std.proofs.lemmas.List.Elements.{All-nil, All-cons, All-append, All-drop}
 use Rattle.mm_field.specs.declared.Field.{Field}
 use Rattle.mm_field.specs.Vectors.{zeros, vector_sum, combination, times_matrix, IsVector, AreVectors, InSpan, AreIndependent, IsWithin}
-use Rattle.mm_field.proofs.VectorLemmas.{IsVector-zeros, vector_sum-zeros, zeros-vector_sum, vector_sum_comm}
-use Rattle.mm_field.proofs.CombinationLemmas.{first_row, other_rows, combination-append, combination-zeros, combination-times_matrix, IsVector-combination, InSpan-within, IsWithin-itself, IsWithin-within, InSpan-zeros}
+use Rattle.mm_field.proofs.VectorLemmas.{IsVector-zeros, vector_sum-zeros, zeros-vector_sum}
+use Rattle.mm_field.proofs.CombinationLemmas.{first_row, other_rows, combination-append, combination-zeros, combination-times_matrix, IsVector-combination, InSpan-within, IsWithin-itself, IsWithin-within}
 use Rattle.mm_field.proofs.PartLemmas.{IsVector-take, IsVector-drop, IsVector-append}
-use Rattle.mm_linear.specs.Coordinates.{completed, coordinates, in_coordinates, IsBasis}
+use Rattle.mm_linear.specs.Coordinates.{completed, coordinates, in_coordinates}
 use Rattle.mm_decomp.specs.Meets.{extended}
 use Rattle.mm_logic.specs.PresentMatrix.{left_column, right_column}
 use Rattle.mm_linear.proofs.BasisLemmas.{completed_is_basis}
-use Rattle.mm_linear.proofs.CoordinateLemmas.{IsVector-coordinates, coordinates_combine, coordinates_unique}
+use Rattle.mm_linear.proofs.CoordinateLemmas.{coordinates_unique}
 use Rattle.mm_linear.proofs.FirstUnits.{first_units, combination-first_units, first_units_independent, first_units_are}
-use Rattle.mm_decomp_laws.proofs.ExtendLemmas.{IsExtension, extended_is}
+use Rattle.mm_decomp_laws.proofs.ExtendLemmas.{extended_is}
 use Rattle.mm_decomp_laws.proofs.IndependenceLemmas.{AreFrames, frame_independent, independent_back, in_front, in_back}
 use Rattle.mm_decomp.proofs.OperatorLemmas.{coordinate_vectors, coordinates_back}
 use Rattle.mm_decomp.specs.BuiltTree.{built_operator}
-use Rattle.mm_logic.specs.Operator.{Op, row_length}
 use Rattle.mm_logic.specs.PresentMatrix.{columns, internal}
 use Rattle.mm_logic.specs.Tree.{Tree, boundary}
-use Rattle.mm_logic.specs.Tree.Tree.{Elem, Void, Join}
+use Rattle.mm_logic.specs.Tree.Tree.{Join}
 
 -- The tree's columns are the coordinates of the given columns in independent vectors that span the same: first a basis of the
 -- boundary space, then one vector for each internal row.

@@ -1,5 +1,5 @@
 -- The row space of the tree that is built for a decomposition.
-use Rattle.std.specs.Prelude.{◌≡◌, List, [], length, map}
+use Rattle.std.specs.Prelude.{◌≡◌, [], length, map}
 use Rattle.mm_field.specs.Vectors.{SameRowSpace}
 use Rattle.mm_present.specs.Comparing.{in_order, present_rows}
 use Rattle.mm_tree.specs.NamedTree.{Tree, element_names}
