@@ -20,3 +20,11 @@ pub mod HeaderTextLemmas
 pub mod StepLineLemmas
 pub mod BuildStateLemmas
 pub mod ReadLemmas
+pub mod BuildOutputLemmas
+pub mod GivenLemmas
+pub mod OrderLemmas
+pub mod ClosedLemmas
+pub mod OrthogonalLemmas
+pub mod ChildRowLemmas
+pub mod NarrowLemmas
+pub mod DualLemmas

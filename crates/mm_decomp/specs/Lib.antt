@@ -13,3 +13,5 @@ pub mod BuildLines
 pub mod Decompositions
 pub mod BuildStates
 pub mod BuildTexts
+pub mod BuildOutput
+pub mod Duals
