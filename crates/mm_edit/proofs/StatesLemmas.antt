@@ -36,19 +36,19 @@ use Rattle.mm_edit.specs.declared.answer.Answer.TheVariants.{Yes, No, Least as L
 use Rattle.mm_edit.specs.declared.states.States.TheVariants as kinds
 use Rattle.mm_edit.specs.Answers.{IsAnswer, decided_type}
 use Rattle.mm_edit.specs.KeptTypes.{size_beside}
-use Rattle.mm_edit.specs.SessionView.{Keep, StatesValue, IsReweighted, IsLeastAnswer, states_value, types_of}
+use Rattle.mm_edit.specs.SessionView.{Keep, StatesValue, IsReweighted, IsLeastAnswer, value_of, types_of}
 use Rattle.mm_edit.proofs.BesideLemmas.{runs_reweighted}
 use Rattle.mm_edit.proofs.KeptLemmas.{kept_again, size_again}
 use Rattle.mm_edit.proofs.WeightLemmas.{ways_stay, shape_stays, reweighted_beside}
 
 pub keep_runs : {A : Type 0} (K : Ghosts A) (r : RunsValue A) (F : Formula) (before : List Value) (f : Field) (T : Tree) (limit : ℕ) → K.shape r.automaton ≡ F
-    → KeepRuns F before (K.lists r.automaton) (K.marked r.automaton) f T limit r.runs → Keep (states_value K (kinds.Runs r)) before f T limit
+    → KeepRuns F before (K.lists r.automaton) (K.marked r.automaton) f T limit r.runs → Keep (value_of K (kinds.Runs r)) before f T limit
 keep_runs K r F before f T limit e h =
     let k = subst (λ (G : Formula). KeepRuns G before (K.lists r.automaton) (K.marked r.automaton) f T limit r.runs) (sym e) h in
     record { stand = record { stands = k.stands; exact = k.exact; mark = k.mark }; grown = k.grown; size = k.fits }
 
 pub keep_rows : {A : Type 0} (K : Ghosts A) (r : LeastValue A) (F : Formula) (before : List Value) (f : Field) (T : Tree) (limit : ℕ) → K.shape r.automaton ≡ F
-    → KeepRows F before (K.lists r.automaton) (K.marked r.automaton) f T limit r.rows → Keep (states_value K (kinds.Rows r)) before f T limit
+    → KeepRows F before (K.lists r.automaton) (K.marked r.automaton) f T limit r.rows → Keep (value_of K (kinds.Rows r)) before f T limit
 keep_rows K r F before f T limit e h =
     let k = subst (λ (G : Formula). KeepRows G before (K.lists r.automaton) (K.marked r.automaton) f T limit r.rows) (sym e) h in
     record { stand = record { stands = k.stands; exact = k.exact; mark = k.mark }; grown = k.grown; size = k.fits }
@@ -96,10 +96,10 @@ reweighted_fits v name after limit h =
     (sym (same_shape name h.weight h.before after.tree h.tree)) (size_again (types_of v) v.query after.f h.before limit h.kept.within h.kept.fits)
 
 -- runs stand for the tree with another weight
-pub runs_keep : {A : Type 0} (K : Ghosts A) (r : RunsValue A) (name : List ℕ) (after : TreeValue) (limit : ℕ) → IsReweighted (states_value K (kinds.Runs r)) name after limit
-    → Keep (states_value K (kinds.Runs r)) (types_of (states_value K (kinds.Runs r))) after.f after.tree limit
+pub runs_keep : {A : Type 0} (K : Ghosts A) (r : RunsValue A) (name : List ℕ) (after : TreeValue) (limit : ℕ) → IsReweighted (value_of K (kinds.Runs r)) name after limit
+    → Keep (value_of K (kinds.Runs r)) (types_of (value_of K (kinds.Runs r))) after.f after.tree limit
 runs_keep K r name after limit h =
-    let v = states_value K (kinds.Runs r) in
+    let v = value_of K (kinds.Runs r) in
     let same = same_shape name h.weight h.before after.tree h.tree in
     record {
       stand = record {
@@ -113,7 +113,7 @@ runs_keep K r name after limit h =
     }
 
 -- rows stand beside the leaf whose element has another weight
-pub rows_beside : {A : Type 0} (K : Ghosts A) (r : LeastValue A) (name : List ℕ) (after : TreeValue) (limit : ℕ) (path : Path) → path_to name after.tree ≡ Some path → IsReweighted (states_value K (kinds.Rows r)) name after limit
+pub rows_beside : {A : Type 0} (K : Ghosts A) (r : LeastValue A) (name : List ℕ) (after : TreeValue) (limit : ℕ) (path : Path) → path_to name after.tree ≡ Some path → IsReweighted (value_of K (kinds.Rows r)) name after limit
     → rows.StandBeside after.f (K.shape r.automaton) (K.lists r.automaton) path after.tree r.rows
 rows_beside K r name after limit path e h =
     let fr = frame after.f (K.shape r.automaton) (K.lists r.automaton) in

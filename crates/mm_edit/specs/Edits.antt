@@ -54,7 +54,8 @@ unless_fault (Some e) a = Err (edit_fault e)
 
 abbrev pub exchanged_at : List ℕ → ℕ → Tree → Tree → Option Path → Result Applied EditFault
 exchanged_at name up new T None = Err (no_node name up T)
-exchanged_at name up new T (Some path) = unless_fault (replace_fault T path new) (record { tree = with_node T path new; cost = length path + nodes new })
+exchanged_at name up new T (Some path) =
+    unless_fault (replace_fault T path new) (record { tree = with_node T path new; cost = length path + nodes new })
 
 -- The node so many steps above the leaf of a name exchanged for another tree, or the first refusal that applies: no leaf has the name; it
 -- is less deep; or the new tree may not take the node's place.

@@ -22,7 +22,9 @@ abbrev Cell : Type 0
 Cell = ConstCell ⊎ (AtomCell ⊎ AboveCell)
 
 abbrev cell_code : Coded Cell
-cell_code = coded⊎ (coded⊎ coded_bool (coded× coded_bool (coded_list coded_ℕ))) (coded⊎ (coded× coded_ℕ (coded× coded_ℕ coded_ℕ)) (coded⊎ coded_ℕ (coded× coded_ℕ coded_ℕ)))
+cell_code =
+    coded⊎ (coded⊎ coded_bool (coded× coded_bool (coded_list coded_ℕ)))
+    (coded⊎ (coded× coded_ℕ (coded× coded_ℕ coded_ℕ)) (coded⊎ coded_ℕ (coded× coded_ℕ coded_ℕ)))
 
 abbrev number_of : Connective → ℕ
 number_of And = 0
@@ -95,6 +97,12 @@ abbrev first_formula : List Formula → Formula
 first_formula [] = Const (Bool.false)
 first_formula (F ∷ Fs) = F
 
+-- a formula with one above it, where it is read back by itself
+one_above : (F : Formula) (kind k : ℕ) (more : List Cell) (Fs : List Formula)
+    → formulas_of (cells F ++ (last_above kind k ++ more)) Fs ≡ formulas_of (last_above kind k ++ more) (F ∷ Fs)
+    → formulas_of ((cells F ++ last_above kind k) ++ more) Fs ≡ formulas_of more (above kind k F ∷ Fs)
+one_above F kind k more Fs back = ap (λ cs. formulas_of cs Fs) (append_assoc (cells F) (last_above kind k) more) ∙ back
+
 pub formulas_of-cells : (F : Formula) (more : List Cell) (Fs : List Formula) → formulas_of (cells F ++ more) Fs ≡ formulas_of more (F ∷ Fs)
 formulas_of-cells (Const b) more Fs = refl
 formulas_of-cells (Ind t) more Fs = refl
@@ -102,16 +110,16 @@ formulas_of-cells (Member x a) more Fs = refl
 formulas_of-cells (SameElem x y) more Fs = refl
 formulas_of-cells (Sub a b) more Fs = refl
 formulas_of-cells (SameSet a b) more Fs = refl
-formulas_of-cells (Not F) more Fs = ap (λ cs. formulas_of cs Fs) (append_assoc (cells F) (last_above 0 0) more) ∙ formulas_of-cells F (last_above 0 0 ++ more) Fs
+formulas_of-cells (Not F) more Fs = one_above F 0 0 more Fs (formulas_of-cells F (last_above 0 0 ++ more) Fs)
 formulas_of-cells (Bin o F G) more Fs =
     let one : List Cell = inr (inr (inl (number_of o))) ∷ [] in
     ap (λ cs. formulas_of cs Fs) (append_assoc (cells F) (cells G ++ one) more ∙ ap (λ cs. cells F ++ cs) (append_assoc (cells G) one more))
     ∙ formulas_of-cells F (cells G ++ (one ++ more)) Fs ∙ formulas_of-cells G (one ++ more) (F ∷ Fs)
     ∙ ap (λ c. formulas_of more (Bin c F G ∷ Fs)) (connective_back o)
-formulas_of-cells (ExSet k F) more Fs = ap (λ cs. formulas_of cs Fs) (append_assoc (cells F) (last_above 1 k) more) ∙ formulas_of-cells F (last_above 1 k ++ more) Fs
-formulas_of-cells (AllSet k F) more Fs = ap (λ cs. formulas_of cs Fs) (append_assoc (cells F) (last_above 2 k) more) ∙ formulas_of-cells F (last_above 2 k ++ more) Fs
-formulas_of-cells (ExElem k F) more Fs = ap (λ cs. formulas_of cs Fs) (append_assoc (cells F) (last_above 3 k) more) ∙ formulas_of-cells F (last_above 3 k ++ more) Fs
-formulas_of-cells (AllElem k F) more Fs = ap (λ cs. formulas_of cs Fs) (append_assoc (cells F) (last_above 4 k) more) ∙ formulas_of-cells F (last_above 4 k ++ more) Fs
+formulas_of-cells (ExSet k F) more Fs = one_above F 1 k more Fs (formulas_of-cells F (last_above 1 k ++ more) Fs)
+formulas_of-cells (AllSet k F) more Fs = one_above F 2 k more Fs (formulas_of-cells F (last_above 2 k ++ more) Fs)
+formulas_of-cells (ExElem k F) more Fs = one_above F 3 k more Fs (formulas_of-cells F (last_above 3 k ++ more) Fs)
+formulas_of-cells (AllElem k F) more Fs = one_above F 4 k more Fs (formulas_of-cells F (last_above 4 k ++ more) Fs)
 
 pub formula_back : (F : Formula) → first_formula (formulas_of (cells F) []) ≡ F
 formula_back F = ap (λ cs. first_formula (formulas_of cs [])) (sym (append-nil (cells F))) ∙ ap first_formula (formulas_of-cells F [] [])

@@ -25,9 +25,9 @@ IsOver Q f T limit = limit < size_beside [] Q f T
 
 -- The kept types go on where they fit the limit with those of the tree: they are followed by exactly those that were missing, each once.
 -- Else there is a rebuild: exactly the types of the tree are kept, each once.
-pub record GoOn (Q : Query) (f : Field) (T : Tree) (limit : ℕ) (before after : List Value) (rebuilds_before rebuilds_after : ℕ) : Type 0 where
-  pub goes_on : size_beside before Q f T ≤ limit → Grown before after (made f Q (shape T)) × (rebuilds_after ≡ rebuilds_before)
-  pub rebuilt : limit < size_beside before Q f T → Grown [] after (made f Q (shape T)) × (rebuilds_after ≡ counted rebuilds_before)
+pub record GoOn (Q : Query) (f : Field) (T : Tree) (limit : ℕ) (before after : List Value) (rebuilds later : ℕ) : Type 0 where
+  pub goes_on : size_beside before Q f T ≤ limit → Grown before after (made f Q (shape T)) × (later ≡ rebuilds)
+  pub rebuilt : limit < size_beside before Q f T → Grown [] after (made f Q (shape T)) × (later ≡ counted rebuilds)
 
 -- What the nodes keep stands for a tree: at each node the run whose type is joined there, or the best rows of what the node offers.
 abbrev pub StandFor : Query → Field → List (List Value) → Tree → Entries → Type 0

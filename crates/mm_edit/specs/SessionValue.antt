@@ -48,12 +48,15 @@ abbrev no_rows : NodeValue
 no_rows = record { name = None; rows = [] }
 
 abbrev entries_code : Coded Entries
-entries_code = code_by (KeptTree ℕ ⊎ KeptTree NodeValue) (coded⊎ (kept_code 0 coded_ℕ) (kept_code no_rows node_code)) of_entries to_entries entries_back
+entries_code =
+    code_by (KeptTree ℕ ⊎ KeptTree NodeValue) (coded⊎ (kept_code 0 coded_ℕ) (kept_code no_rows node_code))
+    of_entries to_entries entries_back
 
 abbrev pub session_code : Coded SessionValue
 session_code =
     code_by (TreeValue × (Query × (ℕ × (List (List Value) × (Entries × ℕ)))))
-    (coded× tree_value_code (coded× query_code (coded× coded_ℕ (coded× (coded_list (coded_list value_code)) (coded× entries_code coded_ℕ)))))
+    (coded× tree_value_code (coded× query_code (coded× coded_ℕ
+    (coded× (coded_list (coded_list value_code)) (coded× entries_code coded_ℕ)))))
     (λ s. (s.tree, (s.query, (s.limit, (s.lists, (s.entries, s.rebuilds))))))
     (λ p. record { tree = p.0; query = p.1.0; limit = p.1.1.0; lists = p.1.1.1.0; entries = p.1.1.1.1.0; rebuilds = p.1.1.1.1.1 })
     (λ _. refl)

@@ -37,18 +37,21 @@ pub record StatesValue : Type 0 where
   pub limit : ℕ
   pub entries : Entries
 
-abbrev pub states_value : {A : Type 0} → Ghosts A → States A → StatesValue
-states_value K (kinds.Runs r) =
-    record { query = Decide (K.shape r.automaton); field = K.field r.automaton; lists = K.lists r.automaton; marked = K.marked r.automaton; limit = r.limit; entries = Runs r.runs }
-states_value K (kinds.Rows r) =
-    record { query = Least (K.shape r.automaton); field = K.field r.automaton; lists = K.lists r.automaton; marked = K.marked r.automaton; limit = r.limit; entries = Rows r.rows }
+abbrev pub seen : {A : Type 0} → Ghosts A → A → Query → ℕ → Entries → StatesValue
+seen K a Q limit entries =
+    record { query = Q; field = K.field a; lists = K.lists a; marked = K.marked a; limit = limit; entries = entries }
+
+abbrev pub value_of : {A : Type 0} → Ghosts A → States A → StatesValue
+value_of K (kinds.Runs r) = seen K r.automaton (Decide (K.shape r.automaton)) r.limit (Runs r.runs)
+value_of K (kinds.Rows r) = seen K r.automaton (Least (K.shape r.automaton)) r.limit (Rows r.rows)
 
 -- the list for the whole formula
 abbrev pub types_of : StatesValue → List Value
 types_of v = root (asked v.query) v.lists
 
 abbrev pub session_value : StatesValue → TreeValue → (rebuilds : ℕ) → SessionValue
-session_value v T rebuilds = record { tree = T; query = v.query; limit = v.limit; lists = v.lists; entries = v.entries; rebuilds = rebuilds }
+session_value v T rebuilds =
+    record { tree = T; query = v.query; limit = v.limit; lists = v.lists; entries = v.entries; rebuilds = rebuilds }
 
 -- What the nodes keep stands for T; the automaton's lists are exactly the values that occur in its types, with the last mark at them.
 pub record Stand (v : StatesValue) (f : Field) (T : Tree) : Type 0 where

@@ -16,7 +16,7 @@ ghost use Rattle.mm_nodes.specs.declared.keeps.KeepFault.TheVariants.{Full};
 ghost use Rattle.mm_edit.specs.declared.fault.EditFault.TheVariants as fault;
 ghost use Rattle.mm_edit.specs.KeptTypes.{IsOver, IsSettled, StandBeside, size_beside};
 ghost use Rattle.mm_edit.specs.SessionValue.{kept_types};
-ghost use Rattle.mm_edit.specs.SessionView.{states_value, types_of, AreAlike, Keep, Renewed, edited};
+ghost use Rattle.mm_edit.specs.SessionView.{value_of, types_of, AreAlike, Keep, Renewed, edited};
 ghost use Rattle.mm_edit.specs.Answers.{IsAnswer};
 ghost use Rattle.mm_edit.specs.Edits.{Edits, Starts, exchanged, reweighted, most_steps, no_node, query_of, rebuild_steps, IsDecided, answer_of};
 
@@ -47,11 +47,11 @@ impl<A: Automaton> Model for Session<A> {
 
     ghost coded = { session_code };
 
-    ghost use Rattle.mm_edit.specs.SessionView.{states_value, session_value, IsKept};
+    ghost use Rattle.mm_edit.specs.SessionView.{value_of, session_value, IsKept};
 
-    ghost view = { λ s. session_value (states_value A.Automaton s.states) s.tree s.rebuilds };
+    ghost view = { λ s. session_value (value_of A.Automaton s.states) s.tree s.rebuilds };
 
-    ghost invariant = { λ s. IsKept (states_value A.Automaton s.states) s.tree s.limit };
+    ghost invariant = { λ s. IsKept (value_of A.Automaton s.states) s.tree s.limit };
 }
 
 /// The law that a tree is valid.
@@ -82,15 +82,15 @@ fn rebuild<A: Automaton, L: Ledger>(
     steps: &mut Steps<L>,
 ) -> Result<(), KeepFault>
     requires limited { limit ≤ MAX_LIMIT }
-    requires limit { (states_value A.Automaton states.old).limit ≡ limit }
-    requires over { letters.IsOver (asked (states_value A.Automaton states.old).query) (states_value A.Automaton states.old).field tree.now.f }
-    ensures alike { AreAlike (states_value A.Automaton states.old) (states_value A.Automaton states.new) }
+    requires limit { (value_of A.Automaton states.old).limit ≡ limit }
+    requires over { letters.IsOver (asked (value_of A.Automaton states.old).query) (value_of A.Automaton states.old).field tree.now.f }
+    ensures alike { AreAlike (value_of A.Automaton states.old) (value_of A.Automaton states.new) }
     ensures ticks { steps.new ≤ steps.old + nodes tree.now.tree }
-    ensures ok { OnOk result (Keep (states_value A.Automaton states.new) [] tree.now.f tree.now.tree limit) }
+    ensures ok { OnOk result (Keep (value_of A.Automaton states.new) [] tree.now.f tree.now.tree limit) }
     ensures counts { OnOk result (rebuilds.new ≡ counted rebuilds.old) }
-    ensures err { OnErr result (states_value A.Automaton states.new ≡ states_value A.Automaton states.old) }
+    ensures err { OnErr result (value_of A.Automaton states.new ≡ value_of A.Automaton states.old) }
     ensures stays { OnErr result (rebuilds.new ≡ rebuilds.old) }
-    ensures full { IfErr result (λ e. e ≡ Full → limit < size_beside [] (states_value A.Automaton states.old).query tree.now.f tree.now.tree) }
+    ensures full { IfErr result (λ e. e ≡ Full → limit < size_beside [] (value_of A.Automaton states.old).query tree.now.f tree.now.tree) }
 {
     match states.renew(alloc, limit, tree, steps) {
         Ok(()) => {
@@ -114,20 +114,20 @@ fn redo_or_rebuild<A: Automaton, L: Ledger>(
     steps: &mut Steps<L>,
 ) -> Result<(), KeepFault>
     requires limited { limit ≤ MAX_LIMIT }
-    requires limit { (states_value A.Automaton states.old).limit ≡ limit }
-    requires over { letters.IsOver (asked (states_value A.Automaton states.old).query) (states_value A.Automaton states.old).field after.now.f }
+    requires limit { (value_of A.Automaton states.old).limit ≡ limit }
+    requires over { letters.IsOver (asked (value_of A.Automaton states.old).query) (value_of A.Automaton states.old).field after.now.f }
     requires place { IsPlaceOf after.now.tree place.now }
     requires size { size ≡ nodes (node_at after.now.tree (path_of place.now.number after.now.tree)) }
-    requires beside { StandBeside (states_value A.Automaton states.old).query after.now.f (states_value A.Automaton states.old).lists
-        (path_of place.now.number after.now.tree) after.now.tree (states_value A.Automaton states.old).entries }
-    ensures alike { AreAlike (states_value A.Automaton states.old) (states_value A.Automaton states.new) }
-    ensures ticks { steps.new ≤ steps.old + size + place.now.depth + rebuild_steps (types_of (states_value A.Automaton states.old))
-        (states_value A.Automaton states.old).query after.now.f after.now.tree limit }
-    ensures ok { OnOk result (Renewed (states_value A.Automaton states.old) (states_value A.Automaton states.new) after.now
+    requires beside { StandBeside (value_of A.Automaton states.old).query after.now.f (value_of A.Automaton states.old).lists
+        (path_of place.now.number after.now.tree) after.now.tree (value_of A.Automaton states.old).entries }
+    ensures alike { AreAlike (value_of A.Automaton states.old) (value_of A.Automaton states.new) }
+    ensures ticks { steps.new ≤ steps.old + size + place.now.depth + rebuild_steps (types_of (value_of A.Automaton states.old))
+        (value_of A.Automaton states.old).query after.now.f after.now.tree limit }
+    ensures ok { OnOk result (Renewed (value_of A.Automaton states.old) (value_of A.Automaton states.new) after.now
         rebuilds.old rebuilds.new) }
-    ensures err { OnErr result (states_value A.Automaton states.new ≡ states_value A.Automaton states.old) }
+    ensures err { OnErr result (value_of A.Automaton states.new ≡ value_of A.Automaton states.old) }
     ensures stays { OnErr result (rebuilds.new ≡ rebuilds.old) }
-    ensures full { IfErr result (λ e. e ≡ Full → IsOver (states_value A.Automaton states.old).query after.now.f after.now.tree limit) }
+    ensures full { IfErr result (λ e. e ≡ Full → IsOver (value_of A.Automaton states.old).query after.now.f after.now.tree limit) }
 {
     match states.redo(alloc, after, place, size, steps) {
         Ok(()) => Ok(()),
@@ -278,7 +278,8 @@ impl<A: Automaton> Session<A> {
         ensures ticks { steps.new ≤ steps.old + most_steps self.old (reweighted name.now weight self.old.tree.tree) }
         ensures fits { result ≡ Err fault.States → ⊥ }
         ensures kept { (kept_types self.new ≡ kept_types self.old) × (self.new.rebuilds ≡ self.old.rebuilds) }
-        ensures decided { IsDecided self.old.query → (result ≡ answer_of (reweighted name.now weight self.old.tree.tree)) × (steps.new ≡ steps.old) }
+        ensures decided { IsDecided self.old.query →
+            (result ≡ answer_of (reweighted name.now weight self.old.tree.tree)) × (steps.new ≡ steps.old) }
     {
         if !self.tree.has_element(name) {
             return Err(EditFault::UnknownName(*name));

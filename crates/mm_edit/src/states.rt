@@ -14,7 +14,7 @@ ghost use Rattle.mm_nodes.specs.declared.keeps.KeepFault.TheVariants.{Full};
 ghost use Rattle.mm_edit.specs.KeptTypes.{StandBeside, size_beside};
 ghost use Rattle.mm_edit.specs.declared.states.States.TheVariants as kinds;
 ghost use Rattle.mm_edit.specs.Edits.{query_of, IsDecided};
-ghost use Rattle.mm_edit.specs.SessionView.{states_value, types_of, AreAlike, Keep, IsAnswerOf, IsReweighted, path_steps, reweigh_steps};
+ghost use Rattle.mm_edit.specs.SessionView.{value_of, types_of, AreAlike, Keep, IsAnswerOf, IsReweighted, path_steps, reweigh_steps};
 
 use crate::answer::{decided, sought};
 use crate::{Answer, Query};
@@ -47,9 +47,9 @@ fn renew_runs<A: Automaton, L: Ledger>(
     requires limited { limit ≤ MAX_LIMIT }
     requires limit { runs.old.limit ≡ limit }
     requires over { letters.IsOver (A.shape runs.old.automaton) (A.field runs.old.automaton) tree.now.f }
-    ensures alike { AreAlike (states_value A.Automaton (kinds.Runs runs.old)) (states_value A.Automaton (kinds.Runs runs.new)) }
+    ensures alike { AreAlike (value_of A.Automaton (kinds.Runs runs.old)) (value_of A.Automaton (kinds.Runs runs.new)) }
     ensures ticks { steps.new ≤ steps.old + nodes tree.now.tree }
-    ensures ok { OnOk result (Keep (states_value A.Automaton (kinds.Runs runs.new)) [] tree.now.f tree.now.tree limit) }
+    ensures ok { OnOk result (Keep (value_of A.Automaton (kinds.Runs runs.new)) [] tree.now.f tree.now.tree limit) }
     ensures err { OnErr result (runs.new ≡ runs.old) }
     ensures full { IfErr result (λ e. e ≡ Full → limit < size_beside [] (Decide (A.shape runs.old.automaton)) tree.now.f tree.now.tree) }
 {
@@ -76,9 +76,9 @@ fn renew_rows<A: Automaton, L: Ledger>(
     requires limited { limit ≤ MAX_LIMIT }
     requires limit { rows.old.limit ≡ limit }
     requires over { letters.IsOver (A.shape rows.old.automaton) (A.field rows.old.automaton) tree.now.f }
-    ensures alike { AreAlike (states_value A.Automaton (kinds.Rows rows.old)) (states_value A.Automaton (kinds.Rows rows.new)) }
+    ensures alike { AreAlike (value_of A.Automaton (kinds.Rows rows.old)) (value_of A.Automaton (kinds.Rows rows.new)) }
     ensures ticks { steps.new ≤ steps.old + nodes tree.now.tree }
-    ensures ok { OnOk result (Keep (states_value A.Automaton (kinds.Rows rows.new)) [] tree.now.f tree.now.tree limit) }
+    ensures ok { OnOk result (Keep (value_of A.Automaton (kinds.Rows rows.new)) [] tree.now.f tree.now.tree limit) }
     ensures err { OnErr result (rows.new ≡ rows.old) }
     ensures full { IfErr result (λ e. e ≡ Full → limit < size_beside [] (LeastOf (A.shape rows.old.automaton)) tree.now.f tree.now.tree) }
 {
@@ -102,12 +102,12 @@ fn reweigh_rows<A: Automaton, L: Ledger>(
     name: &Name,
     steps: &mut Steps<L>,
 ) -> Result<(), KeepFault>
-    requires reweighted { IsReweighted (states_value A.Automaton (kinds.Rows rows.old)) name.now after.now rows.old.limit }
-    ensures alike { AreAlike (states_value A.Automaton (kinds.Rows rows.old)) (states_value A.Automaton (kinds.Rows rows.new)) }
+    requires reweighted { IsReweighted (value_of A.Automaton (kinds.Rows rows.old)) name.now after.now rows.old.limit }
+    ensures alike { AreAlike (value_of A.Automaton (kinds.Rows rows.old)) (value_of A.Automaton (kinds.Rows rows.new)) }
     ensures ticks { steps.new ≤ steps.old + path_steps (path_to name.now after.now.tree) }
-    ensures ok { OnOk result (Keep (states_value A.Automaton (kinds.Rows rows.new)) (types_of (states_value A.Automaton (kinds.Rows rows.old)))
+    ensures ok { OnOk result (Keep (value_of A.Automaton (kinds.Rows rows.new)) (types_of (value_of A.Automaton (kinds.Rows rows.old)))
         after.now.f after.now.tree rows.old.limit) }
-    ensures err { OnErr result (states_value A.Automaton (kinds.Rows rows.new) ≡ states_value A.Automaton (kinds.Rows rows.old)) }
+    ensures err { OnErr result (value_of A.Automaton (kinds.Rows rows.new) ≡ value_of A.Automaton (kinds.Rows rows.old)) }
     ensures fits { result ≡ Err Full → ⊥ }
 {
     match after.place(name, 0) {
@@ -130,10 +130,10 @@ impl<A: Automaton> States<A> {
         requires empty { A.lists automaton ≡ no_values (A.shape automaton) }
         requires over { letters.IsOver (A.shape automaton) (A.field automaton) tree.now.f }
         ensures ticks { steps.new ≤ steps.old + nodes tree.now.tree }
-        ensures query { IfOk result (λ states. (states_value A.Automaton states).query ≡ query_of query (A.shape automaton)) }
-        ensures field { IfOk result (λ states. (states_value A.Automaton states).field ≡ A.field automaton) }
-        ensures limit { IfOk result (λ states. (states_value A.Automaton states).limit ≡ limit) }
-        ensures keep { IfOk result (λ states. Keep (states_value A.Automaton states) [] tree.now.f tree.now.tree limit) }
+        ensures query { IfOk result (λ states. (value_of A.Automaton states).query ≡ query_of query (A.shape automaton)) }
+        ensures field { IfOk result (λ states. (value_of A.Automaton states).field ≡ A.field automaton) }
+        ensures limit { IfOk result (λ states. (value_of A.Automaton states).limit ≡ limit) }
+        ensures keep { IfOk result (λ states. Keep (value_of A.Automaton states) [] tree.now.f tree.now.tree limit) }
         ensures full { IfErr result (λ e. e ≡ Full → limit < size_beside [] (query_of query (A.shape automaton)) tree.now.f tree.now.tree) }
     {
         match query {
@@ -157,18 +157,18 @@ impl<A: Automaton> States<A> {
         size: u32,
         steps: &mut Steps<L>,
     ) -> Result<(), KeepFault>
-        requires over { letters.IsOver (asked (states_value A.Automaton self.old).query) (states_value A.Automaton self.old).field after.now.f }
+        requires over { letters.IsOver (asked (value_of A.Automaton self.old).query) (value_of A.Automaton self.old).field after.now.f }
         requires place { IsPlaceOf after.now.tree place.now }
         requires size { size ≡ nodes (node_at after.now.tree (path_of place.now.number after.now.tree)) }
-        requires beside { StandBeside (states_value A.Automaton self.old).query after.now.f (states_value A.Automaton self.old).lists
-            (path_of place.now.number after.now.tree) after.now.tree (states_value A.Automaton self.old).entries }
-        ensures alike { AreAlike (states_value A.Automaton self.old) (states_value A.Automaton self.new) }
+        requires beside { StandBeside (value_of A.Automaton self.old).query after.now.f (value_of A.Automaton self.old).lists
+            (path_of place.now.number after.now.tree) after.now.tree (value_of A.Automaton self.old).entries }
+        ensures alike { AreAlike (value_of A.Automaton self.old) (value_of A.Automaton self.new) }
         ensures ticks { steps.new ≤ steps.old + size + place.now.depth }
-        ensures ok { OnOk result (Keep (states_value A.Automaton self.new) (types_of (states_value A.Automaton self.old)) after.now.f
-            after.now.tree (states_value A.Automaton self.old).limit) }
-        ensures err { OnErr result (states_value A.Automaton self.new ≡ states_value A.Automaton self.old) }
-        ensures full { IfErr result (λ e. e ≡ Full → (states_value A.Automaton self.old).limit <
-            size_beside (types_of (states_value A.Automaton self.old)) (states_value A.Automaton self.old).query after.now.f after.now.tree) }
+        ensures ok { OnOk result (Keep (value_of A.Automaton self.new) (types_of (value_of A.Automaton self.old)) after.now.f
+            after.now.tree (value_of A.Automaton self.old).limit) }
+        ensures err { OnErr result (value_of A.Automaton self.new ≡ value_of A.Automaton self.old) }
+        ensures full { IfErr result (λ e. e ≡ Full → (value_of A.Automaton self.old).limit <
+            size_beside (types_of (value_of A.Automaton self.old)) (value_of A.Automaton self.old).query after.now.f after.now.tree) }
     {
         match self {
             States::Runs(runs) => runs.redo(alloc, after, place, size, steps),
@@ -186,13 +186,14 @@ impl<A: Automaton> States<A> {
         steps: &mut Steps<L>,
     ) -> Result<(), KeepFault>
         requires limited { limit ≤ MAX_LIMIT }
-        requires limit { (states_value A.Automaton self.old).limit ≡ limit }
-        requires over { letters.IsOver (asked (states_value A.Automaton self.old).query) (states_value A.Automaton self.old).field tree.now.f }
-        ensures alike { AreAlike (states_value A.Automaton self.old) (states_value A.Automaton self.new) }
+        requires limit { (value_of A.Automaton self.old).limit ≡ limit }
+        requires over { letters.IsOver (asked (value_of A.Automaton self.old).query) (value_of A.Automaton self.old).field tree.now.f }
+        ensures alike { AreAlike (value_of A.Automaton self.old) (value_of A.Automaton self.new) }
         ensures ticks { steps.new ≤ steps.old + nodes tree.now.tree }
-        ensures ok { OnOk result (Keep (states_value A.Automaton self.new) [] tree.now.f tree.now.tree limit) }
-        ensures err { OnErr result (states_value A.Automaton self.new ≡ states_value A.Automaton self.old) }
-        ensures full { IfErr result (λ e. e ≡ Full → limit < size_beside [] (states_value A.Automaton self.old).query tree.now.f tree.now.tree) }
+        ensures ok { OnOk result (Keep (value_of A.Automaton self.new) [] tree.now.f tree.now.tree limit) }
+        ensures err { OnErr result (value_of A.Automaton self.new ≡ value_of A.Automaton self.old) }
+        ensures full { IfErr result (λ e. e ≡ Full →
+            limit < size_beside [] (value_of A.Automaton self.old).query tree.now.f tree.now.tree) }
     {
         match self {
             States::Runs(runs) => renew_runs(alloc, runs, limit, tree, steps),
@@ -209,14 +210,14 @@ impl<A: Automaton> States<A> {
         name: &Name,
         steps: &mut Steps<L>,
     ) -> Result<(), KeepFault>
-        requires reweighted { IsReweighted (states_value A.Automaton self.old) name.now after.now (states_value A.Automaton self.old).limit }
-        ensures alike { AreAlike (states_value A.Automaton self.old) (states_value A.Automaton self.new) }
-        ensures ticks { steps.new ≤ steps.old + reweigh_steps (states_value A.Automaton self.old).query (path_to name.now after.now.tree) }
-        ensures ok { OnOk result (Keep (states_value A.Automaton self.new) (types_of (states_value A.Automaton self.old)) after.now.f
-            after.now.tree (states_value A.Automaton self.old).limit) }
-        ensures err { OnErr result (states_value A.Automaton self.new ≡ states_value A.Automaton self.old) }
+        requires reweighted { IsReweighted (value_of A.Automaton self.old) name.now after.now (value_of A.Automaton self.old).limit }
+        ensures alike { AreAlike (value_of A.Automaton self.old) (value_of A.Automaton self.new) }
+        ensures ticks { steps.new ≤ steps.old + reweigh_steps (value_of A.Automaton self.old).query (path_to name.now after.now.tree) }
+        ensures ok { OnOk result (Keep (value_of A.Automaton self.new) (types_of (value_of A.Automaton self.old)) after.now.f
+            after.now.tree (value_of A.Automaton self.old).limit) }
+        ensures err { OnErr result (value_of A.Automaton self.new ≡ value_of A.Automaton self.old) }
         ensures fits { result ≡ Err Full → ⊥ }
-        ensures decided { IsDecided (states_value A.Automaton self.old).query → (result ≡ Ok tt) × (steps.new ≡ steps.old) }
+        ensures decided { IsDecided (value_of A.Automaton self.old).query → (result ≡ Ok tt) × (steps.new ≡ steps.old) }
     {
         match self {
             States::Runs(_) => Ok(()),
@@ -226,7 +227,7 @@ impl<A: Automaton> States<A> {
 
     /// The answer for the tree that runs or rows stand for.
     pub(crate) fn answer(&self, alloc: Global) -> Result<Answer, NoMemory>
-        ensures { IfOk result (λ answer. IsAnswerOf (states_value A.Automaton self.now) answer) }
+        ensures { IfOk result (λ answer. IsAnswerOf (value_of A.Automaton self.now) answer) }
     {
         match self {
             States::Runs(runs) => Ok(decided(runs.truth())),
@@ -239,8 +240,8 @@ impl<A: Automaton> States<A> {
 
     /// The cells of the values that the automaton has numbered. No memory.
     pub(crate) fn cells(&self) -> u64
-        requires { list_cells (parts (asked (states_value A.Automaton self.now).query)) (states_value A.Automaton self.now).lists < 2 ^ 32 }
-        ensures { result ≡ list_cells (parts (asked (states_value A.Automaton self.now).query)) (states_value A.Automaton self.now).lists }
+        requires { list_cells (parts (asked (value_of A.Automaton self.now).query)) (value_of A.Automaton self.now).lists < 2 ^ 32 }
+        ensures { result ≡ list_cells (parts (asked (value_of A.Automaton self.now).query)) (value_of A.Automaton self.now).lists }
     {
         match self {
             States::Runs(runs) => runs.automaton().cells(),

@@ -2,7 +2,7 @@ use Rattle.std.proofs.Common.{sym}
 use Rattle.mm_tree.specs.Places.{path_of}
 use Rattle.mm_nodes.proofs.EmptyLemmas.{on_ok}
 use Rattle.mm_edit.specs.declared.states.States.TheVariants as kinds
-use Rattle.mm_edit.specs.SessionView.{states_value, types_of}
+use Rattle.mm_edit.specs.SessionView.{value_of, types_of}
 use Rattle.mm_edit.proofs.PlaceLemmas.{found_way, leaf_above}
 use Rattle.mm_edit.proofs.StatesLemmas.{keep_rows, rows_beside, reweighted_fits, never_full}
 use Rattle.mm_edit.proofs.WeightLemmas.{one_node}
@@ -27,9 +27,9 @@ returns-in-Some-clause-ok g c =
     let K = g.A.Automaton in
     let rows = c.args.rows.now in
     on_ok c.redo.result c.redo.ensures.ok
-    (λ h. keep_rows K c.redo.new.self (K.shape rows.automaton) (types_of (states_value K (kinds.Rows rows))) c.args.after.now.f c.args.after.now.tree rows.limit c.redo.ensures.same.0 h)
+    (λ h. keep_rows K c.redo.new.self (K.shape rows.automaton) (types_of (value_of K (kinds.Rows rows))) c.args.after.now.f c.args.after.now.tree rows.limit c.redo.ensures.same.0 h)
 
 pub returns-in-Some-clause-fits : goal.returns-in-Some-clause-fits
 returns-in-Some-clause-fits g c =
     never_full c.redo.result _ c.args.rows.now.limit c.redo.ensures.full
-    (reweighted_fits (states_value g.A.Automaton (kinds.Rows c.args.rows.now)) c.args.name.now c.args.after.now c.args.rows.now.limit c.requires.reweighted)
+    (reweighted_fits (value_of g.A.Automaton (kinds.Rows c.args.rows.now)) c.args.name.now c.args.after.now c.args.rows.now.limit c.requires.reweighted)

@@ -5,7 +5,7 @@ use Rattle.mm_tree.specs.Places.{path_of, IsPlaceOf}
 use Rattle.mm_tree.specs.Replacing.{replace_fault}
 use Rattle.mm_edit.specs.Edits.{Edits}
 use Rattle.mm_edit.specs.KeptTypes.{StandBeside}
-use Rattle.mm_edit.specs.SessionView.{states_value, session_value}
+use Rattle.mm_edit.specs.SessionView.{value_of, session_value}
 use Rattle.mm_edit.proofs.EditLemmas.{exchange_place, exchange_size, exchange_fits, exchange_beside, exchange_done}
 use Rattle.mm_edit.proofs.session.Session.exchange.Goals as goal
 
@@ -21,7 +21,7 @@ redo_or_rebuild-result-requires-clause-size g c =
 
 pub redo_or_rebuild-result-requires-clause-beside : goal.redo_or_rebuild-result-requires-clause-beside
 redo_or_rebuild-result-requires-clause-beside g c =
-    let v = states_value g.A.Automaton c.self.inside.states in
+    let v = value_of g.A.Automaton c.self.inside.states in
     let mid = c.splice-old.new.self in
     let is = subst (λ s. IsPlaceOf s.tree.tree c.args.place.now) (sym c.self.view_is) c.requires.place in
     subst (λ f. StandBeside v.query f v.lists (path_of c.args.place.now.number mid.tree) mid.tree v.entries) (sym c.splice-old.ensures.field)
@@ -48,7 +48,7 @@ invariant_of-self g c =
     let place = c.args.place.now in
     let is = subst (λ s. IsPlaceOf s.tree.tree place) (sym c.self.view_is) c.requires.place in
     let redo = c.redo_or_rebuild-result in
-    (exchange_done (states_value K c.self.inside.states) (states_value K redo.new.states) c.self.inside.tree c.splice-old.new.self c.put_back.new.tree c.splice-old.result.tree c.args.new.tree place
+    (exchange_done (value_of K c.self.inside.states) (value_of K redo.new.states) c.self.inside.tree c.splice-old.new.self c.put_back.new.tree c.splice-old.result.tree c.args.new.tree place
     c.self.inside.rebuilds redo.new.rebuilds c.self.inside.limit 0 redo.result redo.ensures.alike c.self.invariant is c.splice-old.ensures.field c.splice-old.ensures.tree c.splice-old.ensures.old_tree
     redo.ensures.ok redo.ensures.err redo.ensures.stays redo.ensures.full c.put_back.ensures.ok c.put_back.ensures.field c.put_back.ensures.err).0
 
@@ -58,8 +58,8 @@ returns-clause-edits g c =
     let place = c.args.place.now in
     let is = subst (λ s. IsPlaceOf s.tree.tree place) (sym c.self.view_is) c.requires.place in
     let redo = c.redo_or_rebuild-result in
-    let v = states_value K c.self.inside.states in
-    let w = states_value K redo.new.states in
+    let v = value_of K c.self.inside.states in
+    let w = value_of K redo.new.states in
     let after = session_value w c.put_back.new.tree redo.new.rebuilds in
     let cost = place.depth + nodes c.args.new.tree in
     subst (λ s. Edits s after (Ok (record { tree = with_node s.tree.tree (path_of place.number s.tree.tree) c.args.new.tree; cost = cost })) c.edited.result) c.self.view_is

@@ -6,7 +6,7 @@ use Rattle.mm_tree.specs.Paths.{path_to, with_weight}
 use Rattle.mm_tree.specs.ValidTree.{most_weight}
 use Rattle.mm_edit.specs.Edits.{Edits, most_steps, reweighted}
 use Rattle.mm_edit.specs.SessionValue.{kept_types}
-use Rattle.mm_edit.specs.SessionView.{states_value, session_value, path_steps}
+use Rattle.mm_edit.specs.SessionView.{value_of, session_value, path_steps}
 use Rattle.mm_edit.proofs.EditLemmas.{few_steps, more_steps, reweigh_done, reweigh_types, reweight_allowed}
 use Rattle.mm_edit.proofs.WeightLemmas.{elements_stay, light_before, ways_stay}
 use Rattle.mm_edit.proofs.session.Session.reweigh.Goals as goal
@@ -35,7 +35,7 @@ invariant_of-self g c =
     let redo = c.reweigh-result in
     let back = c.put_weight_back in
     let put = subst (λ z. OnErr redo.result (back.new.tree.tree ≡ with_weight c.args.name.now z mid.tree)) same back.ensures.err in
-    (reweigh_done (states_value K c.self.inside.states) (states_value K redo.new.self) c.self.inside.tree mid back.new.tree c.args.name.now _ before c.self.inside.rebuilds c.self.inside.limit 0
+    (reweigh_done (value_of K c.self.inside.states) (value_of K redo.new.self) c.self.inside.tree mid back.new.tree c.args.name.now _ before c.self.inside.rebuilds c.self.inside.limit 0
     redo.result redo.ensures.alike c.self.invariant c.trees_are_valid.ensures c.weight_of-before.ensures c.set_weight.ensures.field c.set_weight.ensures.tree redo.ensures.ok redo.ensures.err redo.ensures.fits
     back.ensures.ok back.ensures.field put).0
 
@@ -56,8 +56,8 @@ returns-clause-edits g c =
     let put = subst (λ z. OnErr redo.result (back.new.tree.tree ≡ with_weight name z mid.tree)) same back.ensures.err in
     let set = subst (λ z. mid.tree ≡ with_weight name z T.tree) wsame c.set_weight.ensures.tree in
     let element = subst (λ s. is_one_of name (element_names s.tree.tree) ≡ true) (sym c.self.view_is) c.requires.element in
-    let v = states_value K c.self.inside.states in
-    let w = states_value K redo.new.self in
+    let v = value_of K c.self.inside.states in
+    let w = value_of K redo.new.self in
     let after = session_value w back.new.tree c.self.inside.rebuilds in
     let cost = path_steps (path_to name T.tree) in
     subst (λ s. Edits s after (reweighted name weight s.tree.tree) c.edited.result) c.self.view_is
@@ -75,7 +75,7 @@ returns-clause-ticks g c =
     let T = c.self.inside.tree in
     let mid = c.set_weight.new.self in
     let redo = c.reweigh-result in
-    let v = states_value K c.self.inside.states in
+    let v = value_of K c.self.inside.states in
     let element = subst (λ s. is_one_of name (element_names s.tree.tree) ≡ true) (sym c.self.view_is) c.requires.element in
     let few = few_steps v.query (path_to name mid.tree) in
     let same = ap path_steps (ap (path_to name) c.set_weight.ensures.tree ∙ ways_stay name _ T.tree) in
@@ -88,7 +88,7 @@ pub returns-clause-kept : goal.returns-clause-kept
 returns-clause-kept g c =
     let K = g.A.Automaton in
     let redo = c.reweigh-result in (
-      reweigh_types (states_value K c.self.inside.states) (states_value K redo.new.self) c.self.inside.tree c.set_weight.new.self c.args.name.now _ c.self.inside.limit redo.result
+      reweigh_types (value_of K c.self.inside.states) (value_of K redo.new.self) c.self.inside.tree c.set_weight.new.self c.args.name.now _ c.self.inside.limit redo.result
           redo.ensures.alike c.self.invariant c.set_weight.ensures.field c.set_weight.ensures.tree redo.ensures.ok redo.ensures.err ∙ ap kept_types c.self.view_is,
       ap (λ s. s.rebuilds) c.self.view_is,
     )

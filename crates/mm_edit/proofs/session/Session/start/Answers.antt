@@ -1,7 +1,7 @@
 use Rattle.std.proofs.Common.{[], sym, subst}
 use Rattle.mm_logic.specs.StateSize.{asked}
 use Rattle.mm_states.specs.Letters as letters
-use Rattle.mm_edit.specs.SessionView.{states_value}
+use Rattle.mm_edit.specs.SessionView.{value_of}
 use Rattle.mm_edit.proofs.EditLemmas.{asked_of}
 use Rattle.mm_edit.proofs.KeptLemmas.{keep_kept}
 use Rattle.mm_edit.proofs.session.Session.start.Goals as goal
@@ -9,7 +9,7 @@ use Rattle.mm_edit.proofs.session.Session.start.Goals as goal
 pub invariant_of-result : goal.invariant_of-result
 invariant_of-result g c =
     let K = g.A.Automaton in
-    let v = states_value K c.in-Ok.states in
+    let v = value_of K c.in-Ok.states in
     let f = c.args.tree.f in
     keep_kept v [] c.args.tree c.args.limit c.in-Ok.ensures.keep c.in-Ok.ensures.limit c.requires.limited
     (subst (λ Q. letters.IsOver (asked Q) v.field f) (sym c.in-Ok.ensures.query)
