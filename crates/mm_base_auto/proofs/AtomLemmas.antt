@@ -7,18 +7,18 @@ use Rattle.std.proofs.lemmas.List.Sums.{sum_by-cons}
 use Rattle.std.proofs.lemmas.Bool.{eqb-true}
 use Rattle.std.proofs.lemmas.Option.{slice_get_within, get_or_from_slice_get}
 use Rattle.mm_field.specs.declared.Field.{Field}
-use Rattle.mm_logic.specs.Marks.{Marks}
-use Rattle.mm_states.specs.Letters.{type_at_leaf}
 use Rattle.mm_logic.specs.Formula.{Formula}
 use Rattle.mm_logic.specs.Formula.Formula.{Const, Ind, Member, SameElem, Sub, SameSet, Not, Bin, ExSet, AllSet, ExElem, AllElem}
 use Rattle.mm_logic.specs.Value.{Value}
 use Rattle.mm_logic.specs.Value.Value.{Dead, Flag}
 use Rattle.mm_logic.specs.Occurrence.{own_cells, fresh, nodes, occurring, list_cells, same}
-use Rattle.mm_logic.specs.Growth.{root, missing, missing_cells, Grown, AllGrown, AllGrew}
+use Rattle.mm_logic.specs.Growth.{root, type_at, no_values, missing, missing_cells, Grown, AllGrown, AllGrew}
 use Rattle.mm_logic.proofs.GrowthLemmas.{Grown-none}
 use Rattle.mm_states.specs.declared.letter.AutoFault.{AutoFault}
 use Rattle.mm_states.specs.Lists.{AllFit}
-use Rattle.mm_states.specs.Calls.{Answers, IsRoomy}
+use Rattle.mm_ops.specs.OpValue.{OpValue}
+use Rattle.mm_states.specs.Letters.{joined_type}
+use Rattle.mm_states.specs.Calls.{Answers, IsRoomy, value_of_join}
 use Rattle.mm_states.proofs.KeyLemmas.{same_true, same_self, both_ways, put_grown, put_cells, put_fits}
 use Rattle.mm_states.proofs.FitLemmas.{AllFit-at}
 use Rattle.mm_combine.specs.Puts.{PutKey, PutsKey}
@@ -165,11 +165,28 @@ flag_put flag olds nows room id none e at some = record {
     last [] = refl
     last (x ∷ xs) = last xs
 
--- the type of the number of a flag
-pub flag_type : (flags : List ℕ) (id n : ℕ) → id < length (flag_values flags) → n ≡ get_or flags id n → Flag n ≡ get_or (flag_values flags) id Dead
-flag_type flags id n h e = ap Flag e ∙ sym (get_or-map Flag flags id n Dead (subst (λ k. id < k) (length-map flags Flag) h))
+-- the number of a flag is one of the atom, and its type is the flag
+pub flag_within : (F : Formula) → IsAtomic F → (flags : List ℕ) (id : ℕ) → id < length (root F (flag_values flags ∷ [])) → id < length flags
+flag_within F a flags id h =
+    subst (λ n. id < n) (length-map flags Flag) (subst (λ vs. id < length vs) ((one_node F a).root (flag_values flags)) h)
 
--- the leaf rule of a constant
-pub constant_leaf : (b : Bool) (f : Field) (t : ℕ) (m : Marks) (vec : Option (List ℕ)) → Flag 0 ≡ type_at_leaf f (Const b) t m vec
-constant_leaf b f t m (Some vec) = refl
-constant_leaf b f t m None = refl
+pub flag_type : (F : Formula) → IsAtomic F → (flags : List ℕ) (id n : ℕ) → id < length (root F (flag_values flags ∷ [])) → n ≡ get_or flags id n
+    → Flag n ≡ type_at F (flag_values flags ∷ []) id
+flag_type F a flags id n h e =
+    ap Flag e
+    ∙ sym (get_or-map Flag flags id n Dead (flag_within F a flags id h))
+    ∙ sym (ap (λ vs. get_or vs id Dead) ((one_node F a).root (flag_values flags)))
+
+-- a join of two flags
+pub flag_joined : (F : Formula) → IsAtomic F → (op : OpValue) (left right l r flag : ℕ) (olds nows : List ℕ) (room : ℕ) (res : Result ℕ AutoFault)
+    → left < length (root F (flag_values olds ∷ [])) → right < length (root F (flag_values olds ∷ [])) → l ≡ get_or olds left l → r ≡ get_or olds right r
+    → Flag flag ≡ joined_type F op (Flag l) (Flag r) → PutsKey nat_eq (λ k. 1) flag olds nows room res
+    → Answers F (value_of_join F (flag_values olds ∷ []) op left right) (flag_values olds ∷ []) (flag_values nows ∷ []) room res
+flag_joined F a op left right l r flag olds nows room res x y f g e p =
+    let first = flag_type F a olds left l x f in
+    let second = flag_type F a olds right r y g in
+    flag_answers F a (value_of_join F (flag_values olds ∷ []) op left right) flag olds nows room res (e ∙ (λ i. joined_type F op (first i) (second i))) p
+
+-- an atom without values
+pub no_flags : (F : Formula) → IsAtomic F → (flags : List ℕ) → flags ≡ [] → flag_values flags ∷ [] ≡ no_values F
+no_flags F a flags e = ap (λ z. flag_values z ∷ []) e ∙ sym (ap (map (λ G. [])) (one_node F a).nodes)

@@ -10,12 +10,12 @@ use Rattle.mm_base_auto.specs.Spaces.{ind_values}
 use Rattle.mm_base_auto.specs.Terms.{term_of}
 
 abbrev pub atom_shape : Atom → Formula
-atom_shape (Const a) = formula.Const a.holds
+atom_shape (Const a) = formula.Const a.rule.holds
 atom_shape (Ind a) = formula.Ind (term_of a.whole a.slots.items)
-atom_shape (Member a) = formula.Member a.x a.set
-atom_shape (SameElem a) = formula.SameElem a.x a.y
-atom_shape (Sub a) = formula.Sub a.a a.b
-atom_shape (SameSet a) = formula.SameSet a.a a.b
+atom_shape (Member a) = formula.Member a.rule.x a.rule.set
+atom_shape (SameElem a) = formula.SameElem a.rule.x a.rule.y
+atom_shape (Sub a) = formula.Sub a.rule.a a.rule.b
+atom_shape (SameSet a) = formula.SameSet a.rule.a a.rule.b
 
 abbrev pub atom_field : Atom → Field
 atom_field (Ind a) = a.field

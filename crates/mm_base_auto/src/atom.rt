@@ -58,7 +58,7 @@ impl Atom {
     }
 
     /// How many values there are. No memory.
-    pub fn len(&self) -> u64
+    pub fn len(&self) -> u32
         ensures { result ≡ length (atom_values self.now) }
     {
         match self {

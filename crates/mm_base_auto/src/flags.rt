@@ -15,6 +15,7 @@ pub(crate) struct FlagTable {
     flags: SmallVec<u8, 8>,
     mark: usize,
     ghost within: { mark ≤ length flags.items },
+    ghost few: { length flags.items < 2 ^ 32 },
 }
 
 impl FlagTable {
@@ -29,7 +30,14 @@ impl FlagTable {
         }
     }
 
-    /// How many flags there are: each takes one cell.
+    /// How many flags there are.
+    pub(crate) fn len(&self) -> u32
+        ensures { result ≡ length self.now.flags.items }
+    {
+        self.flags.len() as u32
+    }
+
+    /// The cells of the flags: each takes one.
     pub(crate) fn cells(&self) -> u64
         ensures { result ≡ length self.now.flags.items }
     {
@@ -83,6 +91,7 @@ impl FlagTable {
     }
 
     fn push(&mut self, _alloc: Global, flag: u8) -> Result<(), NoMemory>
+        requires { length self.old.flags.items + 1 < 2 ^ 32 }
         ensures mark { self.new.mark ≡ self.old.mark }
         ensures ok { OnOk result (self.new.flags.items ≡ self.old.flags.items ++ flag ∷ []) }
         ensures err { OnErr result (self.new ≡ self.old) }

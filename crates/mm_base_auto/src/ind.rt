@@ -87,10 +87,10 @@ impl IndAuto {
     }
 
     /// How many values there are. No memory.
-    pub fn len(&self) -> u64
+    pub fn len(&self) -> u32
         ensures { result ≡ length self.now.values.table }
     {
-        self.values.cells()
+        self.values.len()
     }
 
     /// The value of a number. No memory.
