@@ -42,7 +42,7 @@ use Rattle.mm_machine.proofs.MachineLemmas.{plain_list, held_of}
 
 -- ---- counts of nodes
 
-nodes_some : (F : Formula) → 0 < length (nodes F)
+pub nodes_some : (F : Formula) → 0 < length (nodes F)
 nodes_some (Const b) = omega arith
 nodes_some (Ind u) = omega arith
 nodes_some (Member x y) = omega arith
@@ -170,7 +170,7 @@ module _ (f : Field) (n : Node) (olds mids : List Part) (p : Part) (at : p.node 
 
 -- ---- the kinds of nodes
 
-atomic : (a : Atom) → IsAtomic (atom_shape a)
+pub atomic : (a : Atom) → IsAtomic (atom_shape a)
 atomic (atom.Const a) = tt
 atomic (atom.Ind a) = tt
 atomic (atom.Member a) = tt
@@ -233,11 +233,11 @@ quantifier_built f q false k node.Not G olds mids p new at m b = absurd new
 quantifier_built f q false k (node.Pair o t skip) G olds mids p new at m b = absurd new
 quantifier_built f q false k (node.Set r s t) G olds mids p new at m b = absurd new
 
-or_left : (a b : Bool) → a ≡ true → (a || b) ≡ true
+pub or_left : (a b : Bool) → a ≡ true → (a || b) ≡ true
 or_left true b e = refl
 or_left false b e = let no : false ≡ true = e in cc
 
-or_right : (a b : Bool) → b ≡ true → (a || b) ≡ true
+pub or_right : (a b : Bool) → b ≡ true → (a || b) ≡ true
 or_right true b e = refl
 or_right false b e = e
 

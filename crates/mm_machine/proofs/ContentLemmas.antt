@@ -37,7 +37,7 @@ use Rattle.mm_machine.proofs.BuildLemmas.{plain_count}
 
 -- ---- the first part by its formula
 
-shapes-drop : (k : ℕ) (ps : List Part) → drop k (shapes ps) ≡ shapes (drop k ps)
+pub shapes-drop : (k : ℕ) (ps : List Part) → drop k (shapes ps) ≡ shapes (drop k ps)
 shapes-drop zero ps = refl
 shapes-drop (suc k) [] = refl
 shapes-drop (suc k) (p ∷ ps) = shapes-drop k ps
@@ -255,7 +255,7 @@ module _ (ps : Parts) (g : Field) (h : IsMachine ps g) (at : ℕ) (l : at < leng
       (subst (λ bs. IsNumberOf (shape_at ps at) (lists (views bs)) id) (drop-map (block_of ps.ops) at ps.list.items)
       (subst (λ ls. IsNumberOf (shape_at ps at) ls id) (sym lists_at) n)))))
 
-  over_at : AllFit (IsPartOf (shape_in ps) g) (views (drop at (blocks ps)))
+  pub over_at : AllFit (IsPartOf (shape_in ps) g) (views (drop at (blocks ps)))
   over_at = subst (AllFit (IsPartOf (shape_in ps) g)) (sym (views-drop at (blocks ps))) (fit_drop at (views (blocks ps)) h.over)
     where
       fit_drop : (k : ℕ) (vs : List View) → AllFit (IsPartOf (shape_in ps) g) vs → AllFit (IsPartOf (shape_in ps) g) (drop k vs)

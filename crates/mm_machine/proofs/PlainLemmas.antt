@@ -158,7 +158,7 @@ plain_value f t (AllSet k F) v = λ i. IsSetOf (λ x. plain_value f t F x i) v
 plain_value f t (ExElem k F) v = λ i. IsPairOf (λ x. plain_value f t F x i) (IsSetOf (λ x. plain_value f t F x i)) v
 plain_value f t (AllElem k F) v = λ i. IsPairOf (λ x. plain_value f t F x i) (IsSetOf (λ x. plain_value f t F x i)) v
 
-plain_ind : (F : Formula) → has_ind (plain F) ≡ has_ind F
+pub plain_ind : (F : Formula) → has_ind (plain F) ≡ has_ind F
 plain_ind (Const b) = refl
 plain_ind (Ind u) = refl
 plain_ind (Member x a) = refl

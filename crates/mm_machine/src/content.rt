@@ -1,10 +1,10 @@
 //! What the value of a number is, over the numbers of the parts that it stands on.
 
 ghost use Rattle.std.specs.Prelude.{◌≡◌, ◌<◌, [], ◌∷◌, drop, length};
-ghost use Rattle.mm_machine.specs.Parts.{views, lists, Begins, IsKindOf, IsNumber};
+ghost use Rattle.mm_machine.specs.Parts.{views, roots, lists, Begins, IsKindOf, IsNumber};
 ghost use Rattle.mm_machine.specs.Parts.{Kind as kind, nothing};
 ghost use Rattle.mm_machine.specs.Blocks.{node_block, blocks};
-ghost use Rattle.mm_machine.specs.Looks.{CanLook};
+ghost use Rattle.mm_machine.specs.Looks.{CanLook, count_in};
 ghost use Rattle.mm_machine.specs.Machines.{IsPartOf};
 ghost use Rattle.mm_machine.specs.Shapes.{head_shape, shapes};
 ghost use Rattle.mm_machine.specs.Contents.{IsContent};
@@ -51,6 +51,37 @@ fn atom_value_at(parts: &Parts, at: usize, id: TypeId) -> AtomValue
     ensures { result ≡ shown_in (drop at (blocks parts.now)) id }
 {
     atom_value(&parts.list[at].node, id)
+}
+
+fn own_count(node: &Node) -> u32
+    ensures { result ≡ count_in (node_block node.now nothing ∷ []) }
+{
+    match node {
+        Node::Atom(atom) => atom.len(),
+        Node::Not => 0,
+        Node::Pair(_, table, _) => table.len(),
+        Node::Set(_, _, table) => table.len(),
+        Node::One(_, _, table) => table.len(),
+    }
+}
+
+// How many values the list of the part at a place has.
+fn own_count_at(parts: &Parts, at: usize) -> u32
+    requires { at < length parts.now.list.items }
+    ensures { result ≡ count_in (drop at (blocks parts.now)) }
+{
+    own_count(&parts.list[at].node)
+}
+
+/// How many values the part `at` has; a `not` has those of the part that it stands on.
+pub(crate) fn count_at(parts: &Parts, at: usize) -> u32
+    requires { CanLook (drop at (blocks parts.now)) }
+    ensures { result ≡ length (roots (views (drop at (blocks parts.now)))) }
+{
+    match kind_at(parts, at) {
+        Kind::Not => count_at(parts, at + 1),
+        Kind::Atom | Kind::Pair(_) | Kind::Set | Kind::One => own_count_at(parts, at),
+    }
 }
 
 /// The value of a number of the part `at`.

@@ -1,6 +1,6 @@
 //! The numbers of operators.
 
-ghost use Rattle.std.specs.Prelude.{◌≡◌, ◌<◌, ◌≤◌, length, map, slice_get, Some, IfOk, []};
+ghost use Rattle.std.specs.Prelude.{◌≡◌, ◌<◌, ◌≤◌, length, map, slice_get, Some, IfOk, [], true};
 ghost use Rattle.mm_machine.specs.Parts.{views, IsSound};
 ghost use Rattle.mm_machine.specs.Blocks.{blocks, cuts};
 ghost use Rattle.mm_machine.specs.Shapes.{signs};
@@ -21,8 +21,22 @@ pub(crate) fn number_of(alloc: Global, parts: &mut Parts, op: &Op) -> Result<u32
     ensures few { length parts.new.ops ≤ 65536 }
     ensures keeps { KeepsTables parts.old parts.new }
 {
+    if is_last(parts, op) {
+        return Ok(parts.last);
+    }
     make_room(parts);
     add_operator(alloc, parts, op)
+}
+
+// Whether an operator is the one whose number was asked for last.
+fn is_last(parts: &Parts, op: &Op) -> bool
+    requires { length parts.now.ops ≤ 65536 }
+    ensures { result ≡ true → slice_get parts.now.ops parts.now.last ≡ Some op.now }
+{
+    if parts.last >= parts.ops.len() {
+        return false;
+    }
+    parts.ops.get(parts.last) == op
 }
 
 // Forgets all joins where too many operators have numbers.
@@ -61,5 +75,7 @@ fn add_operator(alloc: Global, parts: &mut Parts, op: &Op) -> Result<u32, NoMemo
     ensures few { length parts.new.ops ≤ 65536 }
     ensures keeps { KeepsTables parts.old parts.new }
 {
-    parts.ops.put(alloc, *op)
+    let number = parts.ops.put(alloc, *op)?;
+    parts.last = number;
+    Ok(number)
 }
