@@ -1,0 +1,170 @@
+"""What the commands share: options of the search, the progress line, and how a command ends."""
+
+from __future__ import annotations
+
+import argparse
+import os
+import sys
+from collections.abc import Callable
+from pathlib import Path
+from typing import Optional
+
+from mso_tree_search import Found, Options, Strategy, WIDTH_LIMIT, find_tree
+
+from .errors import Exit, ToolError
+from .matroid import Matroid
+from .program import Program
+from .texts import build_text, job_text
+from .trees import DEPTH_LIMIT
+
+EXIT_CODES = """exit codes: 0 done; 1 the file is wrong (the message names its line) or the question does not fit it;
+2 wrong words; 3 no tree was found that mso takes; 4 mso refused the text or the question; 5 something is not installed"""
+
+
+def parser(description: str) -> argparse.ArgumentParser:
+    """A parser that tells the exit codes below its help."""
+    return argparse.ArgumentParser(
+        description=description, epilog=EXIT_CODES, formatter_class=argparse.RawDescriptionHelpFormatter
+    )
+
+
+def add_search_options(words: argparse.ArgumentParser) -> None:
+    """The options of the search for a tree."""
+    group = words.add_argument_group("search for a tree")
+    group.add_argument("--seconds", type=_positive, default=5.0, metavar="S", help="time for local search (5)")
+    group.add_argument("--seed", type=int, default=1, metavar="N", help="seed of the random choices (1)")
+    group.add_argument("--width", type=int, default=1, metavar="W", help="stop where a tree of this width is found (1)")
+    ways = group.add_mutually_exclusive_group()
+    ways.add_argument(
+        "--given", dest="strategy", action="store_const", const=Strategy.GIVEN, default=Strategy.SEARCH,
+        help="only the given order: at once; best for convolutional codes in their own order",
+    )
+    ways.add_argument(
+        "--path", dest="strategy", action="store_const", const=Strategy.PATH, help="a caterpillar in the given order"
+    )
+
+
+def _positive(text: str) -> float:
+    value = float(text)
+    if not 0 < value < float("inf"):
+        raise argparse.ArgumentTypeError("a number above 0 is needed")
+    return value
+
+
+def add_program_option(words: argparse.ArgumentParser) -> None:
+    """Where `mso` lies."""
+    words.add_argument("--mso", metavar="PATH", help="the program (default: mso on PATH, else the one built in this checkout)")
+
+
+def add_output_options(words: argparse.ArgumentParser) -> None:
+    """What is written of a file."""
+    words.add_argument("--names", metavar="PATH", help="write a table of the names in the text and the user's own")
+    words.add_argument("--job", metavar="QUESTION", help="write a job with this query line, such as 'least X not ind(X)'")
+    words.add_argument("--dual", action="store_true", help="with --job: a job of the dual matroid")
+    words.add_argument("--force", action="store_true", help="write the text also where the tree is too wide")
+
+
+class Progress:
+    """One line on the terminal that is written over; nothing where standard error is no terminal."""
+
+    def __init__(self) -> None:
+        self._shown = sys.stderr.isatty()
+
+    def show(self, text: str) -> None:
+        """Writes over the line."""
+        if self._shown:
+            width = os.get_terminal_size(sys.stderr.fileno()).columns
+            sys.stderr.write("\r" + text[: width - 1].ljust(width - 1))
+            sys.stderr.flush()
+
+    def clear(self) -> None:
+        """Leaves an empty line."""
+        if self._shown:
+            sys.stderr.write("\r\x1b[K")
+            sys.stderr.flush()
+
+
+def search(matroid: Matroid, chosen: argparse.Namespace) -> Found:
+    """A tree for the matroid, by the options of the command line."""
+    progress = Progress()
+    options = Options(
+        seconds=chosen.seconds, seed=chosen.seed, strategy=chosen.strategy, wanted=chosen.width, report=progress.show
+    )
+    try:
+        return find_tree(matroid.order, matroid.rows, matroid.count, options)
+    finally:
+        progress.clear()
+
+
+def told(found: Found) -> str:
+    """What was found, in a line."""
+    nodes_word = "node" if found.widths.widest == 1 else "nodes"
+    return f"width {found.width} ({found.widths.widest} {nodes_word}), depth {found.depth}, found in {found.seconds:.1f} s"
+
+
+def check_fits(found: Found, matroid: Matroid, bound: Optional[int]) -> None:
+    """Ends with advice where the tree is too wide or too deep for `mso`; `bound` is a width that no tree goes below."""
+    if found.fits:
+        return
+    if found.depth > DEPTH_LIMIT:
+        raise ToolError(Exit.TOO_WIDE, f"{told(found)}: mso takes a depth of {DEPTH_LIMIT} at most. Try another --seed.")
+    below, outside = found.two_sides()
+    few = ", ".join(matroid.labels.labels[element] for element in below[:4])
+    lines = [f"{told(found)}: mso takes {WIDTH_LIMIT} at most."]
+    if bound is not None and bound > WIDTH_LIMIT:
+        lines.append(f"No tree is narrower than {bound}, so more time does not help.")
+    else:
+        lines.append("More time may help: --seconds 60, another --seed.")
+    lines.append(f"The widest node separates {len(below)} elements ({few}{', ..' if len(below) > 4 else ''}) from {outside}.")
+    lines += _WHAT_HELPS
+    raise ToolError(Exit.TOO_WIDE, "\n".join(lines))
+
+
+_WHAT_HELPS = (
+    "What else helps: take out elements that cannot matter to the question. Of parallel elements (between the same two vertices)",
+    "the lightest alone matters for trees, and for cycles of more than two; for cuts make them one element with the sum of the",
+    "weights. In series (a chain of vertices of degree 2) it is the other way round. A part that hangs on the rest by two vertices",
+    "(a 2-sum) can be answered by itself and put back as one element. Each element that is deleted or contracted lowers every",
+    "boundary by at most 1; the answer is then that of the sets that avoid it.",
+    "What does not help: the dual, other rows of the same row space, another field with the same matroid.",
+)
+
+
+def write_text(matroid: Matroid, chosen: argparse.Namespace, note: str, bound: Optional[int]) -> Exit:
+    """Searches a tree and writes the text for `mso build`, or the job, on standard output; how wide it is on standard error."""
+    found = search(matroid, chosen)
+    if not chosen.force:
+        check_fits(found, matroid, bound)
+    text = build_text(matroid, found.tree, [note, told(found)])
+    if chosen.job is not None:
+        program = Program.find(chosen.mso)
+        header = program.output(["build"], text)
+        text = job_text(program.output(["dual"], header) if chosen.dual else header, chosen.job)
+    if chosen.names is not None:
+        write_file(chosen.names, matroid.labels.table())
+    sys.stdout.write(text)
+    print(told(found), file=sys.stderr)
+    return Exit.DONE
+
+
+def write_file(path: str, text: str) -> None:
+    """Writes a file; a fault names it."""
+    try:
+        Path(path).write_text(text, encoding="utf-8")
+    except OSError as fault:
+        raise ToolError(Exit.REFUSED, f"{path}: cannot be written: {fault}") from None
+
+
+def run(command: Callable[[], Exit]) -> int:
+    """Runs a command, and gives its exit code; a fault is one message on standard error."""
+    try:
+        return int(command())
+    except ToolError as fault:
+        print(fault, file=sys.stderr)
+        return int(fault.code)
+    except BrokenPipeError:
+        os.dup2(os.open(os.devnull, os.O_WRONLY), sys.stdout.fileno())
+        return int(Exit.DONE)
+    except KeyboardInterrupt:
+        print("stopped", file=sys.stderr)
+        return 130
