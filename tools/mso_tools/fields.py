@@ -2,6 +2,7 @@
 
 from __future__ import annotations
 
+import re
 from dataclasses import dataclass
 from functools import lru_cache
 
@@ -68,12 +69,16 @@ def lead(row: bytes) -> int:
 
 def support(row: bytes) -> list[int]:
     """The places of the digits that are not 0."""
-    return [place for place, digit in enumerate(row) if digit]
+    return [digit.start() for digit in _NOT_ZERO.finditer(row)]
+
+
+_NOT_ZERO = re.compile(rb"[^\0]", re.DOTALL)
 
 
 def columns_of(rows: list[bytes], count: int) -> list[bytes]:
     """The `count` columns of a matrix, each read from the top."""
-    return [bytes(column) for column in zip(*rows)] if rows else [b""] * count
+    digits = b"".join(rows)
+    return [digits[place::count] for place in range(count)]
 
 
 def text_of(row: bytes) -> str:

@@ -13,8 +13,8 @@ from __future__ import annotations
 
 from typing import Protocol, Union
 
-from .fields import Field, lead
-from .linear import binary_number, orthogonal_rows, reduced_echelon
+from .fields import Field, columns_of, lead
+from .linear import number_of_support, orthogonal_rows, reduced_echelon
 
 Vector = Union[int, bytes]
 Term = tuple[Vector, Vector]
@@ -121,13 +121,12 @@ def term_of(field: Field, y: bytes, z: bytes) -> Form:
     if not any(y) or not any(z):
         return ()
     if field.order == 2:
-        return ((binary_number(y), binary_number(z)),)
+        return ((number_of_support(y), number_of_support(z)),)
     return ((y, z),)
 
 
 def element_forms(field: Field, rows: list[bytes], count: int) -> list[Form]:
     """The form of each of the `count` elements of a matrix."""
     null_rows = orthogonal_rows(field, reduced_echelon(field, rows), count)
-    ys = zip(*null_rows) if null_rows else [()] * count
-    zs = zip(*rows) if rows else [()] * count
-    return [term_of(field, bytes(y), bytes(z)) for y, z in zip(ys, zs)]
+    pairs = zip(columns_of(null_rows, count), columns_of(rows, count))
+    return [term_of(field, y, z) for y, z in pairs]

@@ -4,7 +4,7 @@ from __future__ import annotations
 
 from dataclasses import dataclass
 
-from .fields import Field, lead
+from .fields import Field, lead, support
 
 
 @dataclass(frozen=True)
@@ -20,21 +20,32 @@ class Echelon:
         return len(self.pivots)
 
 
-def binary_number(row: bytes) -> int:
-    """The row of GF(2) as a number whose bit k is the digit at place k."""
-    return int(row.translate(_DIGIT_TEXT)[::-1] or b"0", 2)
+def number_of_support(row: bytes) -> int:
+    """The row as a number whose bit k is 1 where the digit at place k is not 0; over GF(2) it is the row."""
+    return int(row.translate(_SUPPORT_TEXT)[::-1] or b"0", 2)
+
+
+def places_of(number: int) -> list[int]:
+    """The places of the bits of a number that are 1, ascending."""
+    places = []
+    while number:
+        last = number & -number
+        places.append(last.bit_length() - 1)
+        number ^= last
+    return places
 
 
 def _digits(number: int, count: int) -> bytes:
     return format(number, f"0{count}b")[::-1].encode().translate(_DIGIT_VALUE) if count else b""
 
 
-_DIGIT_TEXT = bytes((48 + (digit & 1)) for digit in range(256))
+_SUPPORT_TEXT = b"0" + b"1" * 255
 _DIGIT_VALUE = bytes((digit & 1) for digit in range(256))
 
 
 def reduced_echelon(field: Field, rows: list[bytes]) -> Echelon:
-    """The reduced echelon rows that span what `rows` span."""
+    """The reduced echelon rows that span what `rows` span. Sparse rows go first, which keeps the others sparse."""
+    rows = sorted(rows, key=lambda row: len(row) - row.count(0))
     if field.order == 2:
         return _binary_echelon(rows)
     kept: dict[int, bytes] = {}
@@ -70,7 +81,7 @@ def _binary_echelon(rows: list[bytes]) -> Echelon:
     """As `reduced_echelon` over GF(2), with rows as whole numbers."""
     kept: dict[int, int] = {}
     for row in rows:
-        number = binary_number(row)
+        number = number_of_support(row)
         while number:
             place = (number & -number).bit_length() - 1
             if place not in kept:
@@ -81,11 +92,8 @@ def _binary_echelon(rows: list[bytes]) -> Echelon:
     mask = sum(1 << pivot for pivot in pivots)
     for pivot in reversed(pivots):
         number = kept[pivot]
-        others = number & mask & ~(1 << pivot)
-        while others:
-            place = (others & -others).bit_length() - 1
+        for place in places_of(number & mask & ~(1 << pivot)):
             number ^= kept[place]
-            others &= others - 1
         kept[pivot] = number
     count = len(rows[0]) if rows else 0
     return Echelon(pivots, [_digits(kept[pivot], count) for pivot in pivots])
@@ -95,11 +103,11 @@ def orthogonal_rows(field: Field, echelon: Echelon, count: int) -> list[bytes]:
     """A basis of the vectors of `count` digits whose product with each row is 0: one for each column that is no pivot."""
     pivots = set(echelon.pivots)
     free = [place for place in range(count) if place not in pivots]
-    basis = []
+    basis = {place: bytearray(count) for place in free}
     for place in free:
-        row = bytearray(count)
-        row[place] = 1
-        for pivot, given in zip(echelon.pivots, echelon.rows):
-            row[pivot] = field.negative(given[place])
-        basis.append(bytes(row))
-    return basis
+        basis[place][place] = 1
+    for pivot, row in zip(echelon.pivots, echelon.rows):
+        for place in support(row):
+            if place != pivot:
+                basis[place][pivot] = field.negative(row[place])
+    return [bytes(basis[place]) for place in free]

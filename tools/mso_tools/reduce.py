@@ -5,13 +5,12 @@ The least width of a matrix is that of its widest reduced component, but at leas
 
 from __future__ import annotations
 
+from collections import deque
 from collections.abc import Sequence
 from dataclasses import dataclass
-from typing import Hashable
-
 from .fields import Field
-from .forms import Form, Forms
-from .linear import Echelon
+from .forms import Form, Forms, Vector
+from .linear import Echelon, number_of_support, places_of
 from .trees import Tree, balanced
 
 
@@ -49,39 +48,77 @@ class Classes:
 
 
 def components(echelon: Echelon, count: int) -> list[list[int]]:
-    """The connected components of the matroid, as lists of elements."""
-    classes = Classes(count)
-    for pivot, row in zip(echelon.pivots, echelon.rows):
-        for place, digit in enumerate(row):
-            if digit:
-                classes.join(place, pivot)
-    return classes.lists()
+    """The connected components of the matroid, as ascending lists of elements, by their first elements."""
+    found: list[int] = []
+    for row in echelon.rows:
+        together = number_of_support(row)
+        apart = []
+        for component in found:
+            if component & together:
+                together |= component
+            else:
+                apart.append(component)
+        found = [*apart, together]
+    lists = [places_of(component) for component in found]
+    met = {place for members in lists for place in members}
+    return sorted(lists + [[place] for place in range(count) if place not in met])
 
 
 def joined_classes(forms: Forms, parts: Sequence[Part]) -> list[Part]:
     """The parts with every series and every parallel class joined into one, again and again until nothing changes."""
-    parts = list(parts)
-    while True:
-        fewer = _joined_once(forms, _joined_once(forms, parts, 0), 1)
-        if len(fewer) == len(parts):
-            return fewer
-        parts = fewer
+    joining = _Joining(forms, parts)
+    while joining.waiting:
+        joining.join_class(*joining.waiting.popleft())
+    return list(joining.parts.values())
 
 
-def _joined_once(forms: Forms, parts: Sequence[Part], side: int) -> list[Part]:
-    """Joins the parts of one term that agree in the direction of y (side 0: series) or of z (side 1: parallel)."""
-    classes: dict[Hashable, list[Part]] = {}
-    for number, part in enumerate(parts):
-        key = forms.direction(part.form[0][side]) if len(part.form) == 1 else ("alone", number)
-        classes.setdefault(key, []).append(part)
-    return [_one_part(forms, members) for members in classes.values()]
+_SERIES, _PARALLEL = 0, 1
 
 
-def _one_part(forms: Forms, members: Sequence[Part]) -> Part:
-    form: Form = ()
-    for member in members:
-        form = forms.plus(form, member.form)
-    return Part(balanced([member.tree for member in members]), form)
+class _Joining:
+    """Parts that are joined: those of one term are in series where their y, and parallel where their z, have one direction."""
+
+    def __init__(self, forms: Forms, parts: Sequence[Part]) -> None:
+        self.forms = forms
+        self.parts: dict[int, Part] = {}
+        self.classes: tuple[dict[Vector, set[int]], ...] = ({}, {})
+        self.waiting: deque[tuple[int, Vector]] = deque()
+        self._next = 0
+        for part in parts:
+            self._add(part)
+
+    def _keys(self, part: Part) -> list[tuple[int, Vector]]:
+        """The classes that a part is in: a side and a direction each."""
+        if len(part.form) != 1:
+            return []
+        return [(side, self.forms.direction(part.form[0][side])) for side in (_SERIES, _PARALLEL)]
+
+    def _add(self, part: Part) -> None:
+        number = self._next
+        self._next += 1
+        self.parts[number] = part
+        for side, direction in self._keys(part):
+            members = self.classes[side].setdefault(direction, set())
+            members.add(number)
+            if len(members) == 2:
+                self.waiting.append((side, direction))
+
+    def _take(self, number: int) -> Part:
+        part = self.parts.pop(number)
+        for side, direction in self._keys(part):
+            self.classes[side][direction].discard(number)
+        return part
+
+    def join_class(self, side: int, direction: Vector) -> None:
+        """Makes one part of a class, where it still has two members or more."""
+        members = sorted(self.classes[side][direction])
+        if len(members) < 2:
+            return
+        taken = [self._take(number) for number in members]
+        form: Form = ()
+        for part in taken:
+            form = self.forms.plus(form, part.form)
+        self._add(Part(balanced([part.tree for part in taken]), form))
 
 
 def reduced_columns(field: Field, parts: Sequence[Part], height: int) -> list[bytes]:

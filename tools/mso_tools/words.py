@@ -6,7 +6,6 @@ from collections.abc import Callable, Iterable
 from random import Random
 
 from .fields import Field, lead, support
-from .linear import Echelon
 
 Word = frozenset[int]
 
