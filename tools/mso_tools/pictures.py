@@ -92,17 +92,19 @@ def _columns_box(job: Job, label_of: Mapping[str, str], interest: int, spaces: O
 
 
 def network_picture(network: Network, marked: set[str]) -> str:
-    """The network with its weights; marked links are thick and red."""
+    """The network, with its weights where one is not 1; marked links are thick and red."""
+    weighted = any(edge.weight != 1 for edge in network.edges)
     lines = [
         "graph network {",
-        "  layout=neato; overlap=false; splines=true; sep=0.25; start=3;",
+        "  layout=neato; overlap=vpsc; splines=true; start=3;",
         f'  node [{_FONT}, fontsize=12, shape=box, style="rounded,filled", fillcolor="#eef2f6", color="{_PLAIN}", margin="0.08,0.04"];',
-        f'  edge [{_FONT}, fontsize=11, color="{_PLAIN}", len=1.9];',
+        f'  edge [{_FONT}, fontsize=11, color="{_PLAIN}", len=1.8];',
     ]
     lines += [f"  {quoted(vertex)};" for vertex in network.vertices]
     for edge, label in zip(network.edges, network.labels()):
         look = f', color="{_MARKED}", fontcolor="{_MARKED}", penwidth=3' if label in marked else ""
-        lines.append(f"  {quoted(edge.tail)} -- {quoted(edge.head)} [label={_on_white(edge.weight)}{look}];")
+        words = f"label={_on_white(edge.weight)}" if weighted else "label=\"\""
+        lines.append(f"  {quoted(edge.tail)} -- {quoted(edge.head)} [{words}{look}];")
     return "\n".join(lines) + "\n}\n"
 
 
