@@ -32,6 +32,7 @@ def _words() -> argparse.ArgumentParser:
     network.add_argument("file", metavar="FILE")
     network.add_argument("--format", choices=KINDS, help="the form of the file")
     network.add_argument("--weight", metavar="COLUMN", help="the column or attribute with the weights")
+    network.add_argument("--turn", type=int, metavar="DEGREES", help="turn the picture so that the first link has this angle")
     network.add_argument("--mark", metavar="NAME", nargs="+", default=[], help="links to mark")
     network.add_argument("--answer", metavar="PATH", help="what `mso_ask.py --line` wrote, - for standard input: its last line is marked")
     for kind in (tree, network):
@@ -74,7 +75,7 @@ def _draw_network(chosen: argparse.Namespace) -> Exit:
     unknown = unknown_marks(network, marked)
     if unknown:
         raise ToolError(Exit.REFUSED, f"{chosen.file}: there is no link `{unknown[0]}`")
-    write_picture(network_picture(network, set(marked)), chosen.output)
+    write_picture(network_picture(network, set(marked), chosen.turn), chosen.output)
     return Exit.DONE
 
 

@@ -91,12 +91,16 @@ def _columns_box(job: Job, label_of: Mapping[str, str], interest: int, spaces: O
 # ---------------------------------------------------------------- a network
 
 
-def network_picture(network: Network, marked: set[str]) -> str:
-    """The network, with its weights where one is not 1; marked links are thick and red."""
+def network_picture(network: Network, marked: set[str], turned: Optional[int]) -> str:
+    """The network, with its weights where one is not 1; marked links are thick and red.
+
+    Where `turned` is given the first link has this angle, in degrees.
+    """
+    turn = "" if turned is None else f" normalize={turned};"
     weighted = any(edge.weight != 1 for edge in network.edges)
     lines = [
         "graph network {",
-        "  layout=neato; overlap=vpsc; splines=true; start=3;",
+        f"  layout=neato; overlap=vpsc; splines=true; start=3;{turn}",
         f'  node [{_FONT}, fontsize=12, shape=box, style="rounded,filled", fillcolor="#eef2f6", color="{_PLAIN}", margin="0.08,0.04"];',
         f'  edge [{_FONT}, fontsize=11, color="{_PLAIN}", len=1.8];',
     ]
