@@ -12,7 +12,7 @@ from typing import Optional, Union
 
 from mso_tools.answers import lightest_set, shown
 from mso_tools.code_files import Role
-from mso_tools.command_line import add_program_option, add_search_options, check_fits, parser, run, search, write_file
+from mso_tools.command_line import add_program_option, add_search_options, parser, run, search, write_file
 from mso_tools.errors import Exit, ToolError
 from mso_tools.fields import ORDERS
 from mso_tools.graph_files import KINDS
@@ -51,7 +51,7 @@ def _words() -> argparse.ArgumentParser:
         "--then", action="append", default=[], metavar="NAME=WEIGHT",
         help="answer again after this change of weight; NAME=fails takes the element out (may be repeated)",
     )
-    words.add_argument("--line", action="store_true", help="each answer as one line: the weight, then the names")
+    words.add_argument("--line", action="store_true", help="each answer as one line: the weight and the names, with tabs between them")
     words.add_argument("--prove", action="store_true", help="write a certificate of the answer to FILE.cert, and check it")
     words.add_argument("--certificate", metavar="PATH", help="where --prove writes it")
     read = words.add_argument_group("how the file is read")
@@ -114,6 +114,8 @@ def _question(chosen: argparse.Namespace, source: Source, ever: Sequence[int]) -
 
 
 def _own_formula(text: str, on_dual: bool) -> Question:
+    if "\n" in text:
+        raise ToolError(Exit.USAGE, "--formula is one line")
     words = text.split(None, 2)
     if len(words) == 3 and words[:2] == ["least", "X"]:
         return Least("X", words[2], on_dual, 0, None)
@@ -201,7 +203,7 @@ def _told(
         return shown(found, question.what, labels, whole, units)
     if found is None:
         return ["none"]
-    return ["\t".join([units.shown(found.weight), " ".join(labels.labels[element] for element in found.elements)])]
+    return ["\t".join([units.shown(found.weight), *(labels.labels[element] for element in found.elements)])]
 
 
 def _prove(chosen: argparse.Namespace, program: Program, job: str, answer: str) -> None:
@@ -222,8 +224,7 @@ def _ask(chosen: argparse.Namespace) -> Exit:
     source = _source(chosen)
     prices = Prices(source.matroid.weights, [read_change(text, source.matroid) for text in chosen.then])
     question = _question(chosen, source, prices.ever())
-    found = search(source.matroid, chosen)
-    check_fits(found, source.matroid, source.bound)
+    found = search(source.matroid, chosen, source.bound, False)
     searched = time.monotonic()
     job = _job(program, source, found, question, prices)
     answers = program.output(["run"], job).splitlines()

@@ -86,7 +86,7 @@ def _answer(path: Optional[str]) -> list[str]:
     lines = sys.stdin.read().splitlines() if path == "-" else [line for _, line in read_lines(path)]
     if not lines:
         raise refused(path, None, "there is no answer in it")
-    return lines[-1].partition("\t")[2].split()
+    return lines[-1].split("\t")[1:]
 
 
 def main() -> int:

@@ -39,7 +39,7 @@ def _words() -> argparse.ArgumentParser:
 def _write(chosen: argparse.Namespace) -> Exit:
     matroid = read_code(chosen.file, chosen.field, chosen.role).by_parity_checks()
     note = f"{matroid.count} positions, {len(matroid.rows)} parity checks over GF({matroid.order})"
-    return write_text(matroid, chosen, note, None)
+    return write_text(matroid, chosen, note, 0)
 
 
 def main() -> int:

@@ -28,7 +28,7 @@ from mso_tools.reduce import Part, components, joined_classes, reduced_columns
 from mso_tools.trees import (
     DEPTH_LIMIT, Tree, Widths, balanced, caterpillar, centred, depth, leaves, nodes, replaced, shortened, widths,
 )
-from mso_tools.words import light_words, words_of_rows
+from mso_tools.words import light_words, lightest_words, words_of_rows
 
 WIDTH_LIMIT = 6
 """The greatest boundary that `mso` takes."""
@@ -39,6 +39,8 @@ _ROUNDS = 6
 _ROUNDS_WITHOUT_GAIN = 3
 _GREEDY_ORDERS = 4
 _DIGITS_A_COLUMN = 4
+_WORDS_AN_ELEMENT = 60
+_LATE = 1.5
 _LEAST_REDUCED_WIDTH = 2
 
 
@@ -162,7 +164,7 @@ def _searched(matrix: _Matrix, parts: Sequence[Form], options: Options, clock: C
     """Components apart, each reduced and searched, and their trees joined."""
     echelon = reduced_echelon(matrix.field, matrix.rows)
     reduced = [
-        joined_classes(matrix.forms, [Part(element, parts[element]) for element in component])
+        joined_classes(matrix.forms, [Part(element, parts[element], element) for element in component])
         for component in components(echelon, matrix.count)
     ]
     total = sum(len(component) for component in reduced if len(component) > 3)
@@ -231,7 +233,7 @@ class _Core:
         for name, rows in (("rows", self.rows), ("null rows", null_rows)):
             yield from self._eliminations(name, rows)
         light = light_words(self.reduced.field, (echelon.rows, null_rows), self.chance, lambda: self.clock.within(0.2))
-        words = sorted({*light, *words_of_rows(self.rows)}, key=lambda word: (len(word), sorted(word)))
+        words = lightest_words({*light, *words_of_rows(self.rows)}, _WORDS_AN_ELEMENT * count)
         yield "light words", lambda: starts.merged_words(words, self.forms, self.parts, lambda: self.clock.within(0.5))
         for _ in range(_GREEDY_ORDERS):
             yield "greedy order", lambda: self._interval_tree(
@@ -249,16 +251,16 @@ class _Core:
         return starts.interval_tree(order, self.forms, self.parts)
 
     def _improved(self, tries: list[_Try]) -> _Try:
-        """The cheapest of the best starts, each improved, and of a few more rounds from there."""
+        """The cheapest of the best starts, each improved, and of a few more rounds from there; a hopeless one as it is."""
         best = tries[0]
         for start in tries[:_STARTS_IMPROVED]:
-            if best.width <= self.wanted:
+            if self._is_done(best):
                 return best
             best = min(best, self._round(start), key=_cost)
             self._report("local search", best)
         idle = 0
         for _ in range(_ROUNDS):
-            if best.width <= self.wanted or idle == _ROUNDS_WITHOUT_GAIN:
+            if self._is_done(best) or idle == _ROUNDS_WITHOUT_GAIN:
                 return best
             better = self._round(best)
             idle = 0 if better.cost < best.cost else idle + 1
@@ -266,10 +268,16 @@ class _Core:
             self._report("local search", best)
         return best
 
+    def _is_done(self, best: _Try) -> bool:
+        """Whether local search is of no use: the tree is narrow enough, or far too wide, or the time is long over."""
+        return best.width <= self.wanted or best.width > starts.WIDE or not self.clock.within(_LATE)
+
     def _round(self, start: _Try) -> _Try:
         """The cheapest of a tree, what a tenth of the budget makes of it, and the interval tree of that one's order."""
         tree = improved(start.tree, self.forms, self.parts, self.clock.slice(0.1), self.chance)
         tries = [start, self._weighed(tree)]
+        if not self.clock.within(_LATE):
+            return min(tries, key=_cost)
         try:
             tries.append(self._weighed(self._interval_tree(leaves(tree))))
         except starts.TooWide:

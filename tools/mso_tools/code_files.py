@@ -25,7 +25,7 @@ from .errors import refused
 from .fields import ORDERS, field
 from .graph_files import read_lines
 from .linear import orthogonal_rows, reduced_echelon
-from .matroid import Labels, Matroid, check_count, read_weight, whole_weights
+from .matroid import Labels, Matroid, check_count, read_weight, rows_that_fit, whole_weights
 
 _Line = tuple[int, str]
 
@@ -89,7 +89,7 @@ def _matroid(path: str, order: int, rows: list[bytes], preamble: _Preamble) -> M
         raise refused(path, preamble.lines["weights"], f"{len(preamble.weights)} weights for {count} columns")
     labels = preamble.names or [str(position) for position in range(1, count + 1)]
     weights = preamble.weights or [(Decimal(1), None)] * count
-    return Matroid(order, rows, Labels.of(labels, "b"), whole_weights(path, weights))
+    return Matroid(order, rows_that_fit(order, rows), Labels.of(labels, "b"), whole_weights(path, weights))
 
 
 # ---------------------------------------------------------------- rows of digits

@@ -4,10 +4,10 @@ from __future__ import annotations
 
 import argparse
 import os
+import shutil
 import sys
 from collections.abc import Callable
 from pathlib import Path
-from typing import Optional
 
 from mso_tree_search import Found, Options, Strategy, WIDTH_LIMIT, find_tree
 
@@ -73,7 +73,7 @@ class Progress:
     def show(self, text: str) -> None:
         """Writes over the line."""
         if self._shown:
-            width = os.get_terminal_size(sys.stderr.fileno()).columns
+            width = shutil.get_terminal_size().columns
             sys.stderr.write("\r" + text[: width - 1].ljust(width - 1))
             sys.stderr.flush()
 
@@ -84,16 +84,24 @@ class Progress:
             sys.stderr.flush()
 
 
-def search(matroid: Matroid, chosen: argparse.Namespace) -> Found:
-    """A tree for the matroid, by the options of the command line."""
+def search(matroid: Matroid, chosen: argparse.Namespace, bound: int, force: bool) -> Found:
+    """A tree for the matroid, by the options of the command line. `bound` is a width that no tree goes below (0 says nothing).
+
+    Ends with advice where `mso` does not take the tree, unless `force` is set.
+    """
+    if bound > WIDTH_LIMIT and not force:
+        raise ToolError(Exit.TOO_WIDE, "\n".join([f"No tree is narrower than {bound}: mso takes {WIDTH_LIMIT} at most.", *_WHAT_HELPS]))
     progress = Progress()
     options = Options(
-        seconds=chosen.seconds, seed=chosen.seed, strategy=chosen.strategy, wanted=chosen.width, report=progress.show
+        seconds=chosen.seconds, seed=chosen.seed, strategy=chosen.strategy, wanted=max(chosen.width, bound), report=progress.show
     )
     try:
-        return find_tree(matroid.order, matroid.rows, matroid.count, options)
+        found = find_tree(matroid.order, matroid.rows, matroid.count, options)
     finally:
         progress.clear()
+    if not force:
+        _check_fits(found, matroid)
+    return found
 
 
 def told(found: Found) -> str:
@@ -102,21 +110,20 @@ def told(found: Found) -> str:
     return f"width {found.width} ({found.widths.widest} {nodes_word}), depth {found.depth}, found in {found.seconds:.1f} s"
 
 
-def check_fits(found: Found, matroid: Matroid, bound: Optional[int]) -> None:
-    """Ends with advice where the tree is too wide or too deep for `mso`; `bound` is a width that no tree goes below."""
+def _check_fits(found: Found, matroid: Matroid) -> None:
+    """Ends with advice where the tree is too wide or too deep for `mso`."""
     if found.fits:
         return
     if found.depth > DEPTH_LIMIT:
         raise ToolError(Exit.TOO_WIDE, f"{told(found)}: mso takes a depth of {DEPTH_LIMIT} at most. Try another --seed.")
     below, outside = found.two_sides()
     few = ", ".join(matroid.labels.labels[element] for element in below[:4])
-    lines = [f"{told(found)}: mso takes {WIDTH_LIMIT} at most."]
-    if bound is not None and bound > WIDTH_LIMIT:
-        lines.append(f"No tree is narrower than {bound}, so more time does not help.")
-    else:
-        lines.append("More time may help: --seconds 60, another --seed.")
-    lines.append(f"The widest node separates {len(below)} elements ({few}{', ..' if len(below) > 4 else ''}) from {outside}.")
-    lines += _WHAT_HELPS
+    lines = [
+        f"{told(found)}: mso takes {WIDTH_LIMIT} at most.",
+        f"The widest node separates {len(below)} elements ({few}{', ..' if len(below) > 4 else ''}) from {outside}.",
+        "More time may help: --seconds 60, another --seed.",
+        *_WHAT_HELPS,
+    ]
     raise ToolError(Exit.TOO_WIDE, "\n".join(lines))
 
 
@@ -130,14 +137,15 @@ _WHAT_HELPS = (
 )
 
 
-def write_text(matroid: Matroid, chosen: argparse.Namespace, note: str, bound: Optional[int]) -> Exit:
+def write_text(matroid: Matroid, chosen: argparse.Namespace, note: str, bound: int) -> Exit:
     """Searches a tree and writes the text for `mso build`, or the job, on standard output; how wide it is on standard error."""
-    found = search(matroid, chosen)
-    if not chosen.force:
-        check_fits(found, matroid, bound)
-    text = build_text(matroid, found.tree, [note, told(found)])
+    program = None
     if chosen.job is not None:
         program = Program.find(chosen.mso)
+        program.check_question(chosen.job)
+    found = search(matroid, chosen, bound, chosen.force)
+    text = build_text(matroid, found.tree, [note, told(found)])
+    if program is not None:
         header = program.output(["build"], text)
         text = job_text(program.output(["dual"], header) if chosen.dual else header, chosen.job)
     if chosen.names is not None:

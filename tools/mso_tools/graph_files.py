@@ -11,11 +11,7 @@ from typing import Optional
 
 from .errors import missing, refused
 from .fields import field
-from .matroid import Labels, Matroid, check_count, read_weight, whole_weights
-from .reduce import Classes
-
-ROW_LIMIT = 4096
-"""The most rows that `mso` takes."""
+from .matroid import Labels, Matroid, check_count, read_weight, rows_that_fit, whole_weights
 
 _TAIL_COLUMNS = ("source", "from", "tail", "u", "a", "node1", "start")
 _HEAD_COLUMNS = ("target", "to", "head", "v", "b", "node2", "end")
@@ -70,17 +66,9 @@ class Network:
             if tail != head:
                 rows[tail][place] = 1
                 rows[head][place] = minus
-        if len(rows) > ROW_LIMIT:
-            rows = [row for vertex, row in enumerate(rows) if vertex not in self._last_of_components()]
         weights = whole_weights(self.path, [(edge.weight, edge.line) for edge in self.edges])
-        return Matroid(order, [bytes(row) for row in rows], Labels.of(self.labels(), "e"), weights)
-
-    def _last_of_components(self) -> set[int]:
-        """One vertex of each component: the rows of the others span its row."""
-        classes = Classes(len(self.vertices))
-        for tail, head in self.ends():
-            classes.join(tail, head)
-        return {members[-1] for members in classes.lists()}
+        fitting = rows_that_fit(order, [bytes(row) for row in rows])
+        return Matroid(order, fitting, Labels.of(self.labels(), "e"), weights)
 
 
 def read_network(path: str, kind: Optional[str], weight_column: Optional[str]) -> Network:
@@ -122,28 +110,45 @@ def _read_edge_list(path: str, _: Optional[str]) -> list[Edge]:
 
 
 def _read_dimacs(path: str, _: Optional[str]) -> list[Edge]:
-    edges = []
-    announced = None
-    for number, line in read_lines(path):
-        words = line.split()
-        if words[0] == "p":
-            announced = (_announced(path, number, words), number)
-        elif words[0] in ("e", "a"):
-            edges.append(_edge(path, number, words[1:]))
-        elif words[0] not in ("c", "n", "d", "v", "x"):
-            raise refused(path, number, f"`{words[0]}` begins no line of DIMACS: c, p, e, a or n is expected")
+    """The links of lines `e u v`, `a u v weight` or, where the kind is `tw`, `u v`."""
+    lines = read_lines(path)
+    announced = next(((number, line.split()) for number, line in lines if line.split()[0] == "p"), None)
     if announced is None:
         raise refused(path, None, "there is no line `p`: is it DIMACS?")
-    if announced[0] != len(edges):
-        raise refused(path, announced[1], f"{announced[0]} links are announced, {len(edges)} follow")
-    return edges
-
-
-def _announced(path: str, line: int, words: Sequence[str]) -> int:
-    """The number of links that the line `p KIND VERTICES LINKS` tells."""
+    number, words = announced
     if len(words) != 4 or not words[3].isdecimal():
-        raise refused(path, line, "the line is `p KIND VERTICES LINKS`")
-    return int(words[3])
+        raise refused(path, number, "the line is `p KIND VERTICES LINKS`")
+    read = [_dimacs_edge(path, place, line.split(), words[1]) for place, line in lines]
+    edges = [edge for edge in read if edge is not None]
+    if len(edges) != int(words[3]):
+        raise refused(path, number, f"{words[3]} links are announced, {len(edges)} follow")
+    return _without_arcs_back(edges) if any(line.startswith("a") for _, line in lines) else edges
+
+
+def _dimacs_edge(path: str, number: int, words: list[str], kind: str) -> Optional[Edge]:
+    """The link of a line; None for a line of another kind."""
+    if words[0] in ("e", "a"):
+        return _edge(path, number, words[1:])
+    if kind == "tw" and words[0].isdecimal():
+        return _edge(path, number, words)
+    if words[0] not in ("c", "p", "n", "d", "v", "x"):
+        raise refused(path, number, f"`{words[0]}` begins no line of DIMACS: c, p, e, a or n is expected")
+    return None
+
+
+def _without_arcs_back(edges: list[Edge]) -> list[Edge]:
+    """The links, where an arc and its arc back of the same weight are one link."""
+    waiting: dict[tuple[str, str, Decimal], int] = {}
+    found = []
+    for edge in edges:
+        back = (edge.head, edge.tail, edge.weight)
+        if waiting.get(back, 0):
+            waiting[back] -= 1
+            continue
+        there = (edge.tail, edge.head, edge.weight)
+        waiting[there] = waiting.get(there, 0) + 1
+        found.append(edge)
+    return found
 
 
 def _read_csv(path: str, weight_column: Optional[str]) -> list[Edge]:

@@ -9,9 +9,13 @@ from decimal import Decimal, InvalidOperation
 from typing import Optional
 
 from .errors import refused
+from .fields import field
+from .linear import reduced_echelon
 
 ELEMENT_LIMIT = 4096
 """The most elements that `mso build` takes."""
+ROW_LIMIT = 4096
+"""The most rows that `mso` takes."""
 WEIGHT_LIMIT = 10**12
 """The greatest weight that `mso` takes, and with a minus sign the least."""
 
@@ -68,6 +72,11 @@ class Matroid:
     def count(self) -> int:
         """The number of elements."""
         return len(self.labels.names)
+
+
+def rows_that_fit(order: int, rows: list[bytes]) -> list[bytes]:
+    """The rows, or a basis of what they span where they are more than `mso` takes."""
+    return rows if len(rows) <= ROW_LIMIT else reduced_echelon(field(order), rows).rows
 
 
 def read_weight(path: str, line: Optional[int], text: str) -> Decimal:

@@ -38,6 +38,15 @@ class Program:
             raise ToolError(Exit.PROGRAM_REFUSED, f"mso {' '.join(words)}: {said}{_help_for(said)}")
         return output
 
+    def check_question(self, question: str) -> None:
+        """Ends as `output` does where a query line is none, by a job of one element."""
+        if "\n" in question:
+            raise ToolError(Exit.USAGE, "the question is one line")
+        self.output(["run"], f"{_ONE_ELEMENT}{question}\n")
+
+
+_ONE_ELEMENT = "mso 1\nfield 2\nelements a\nrow 1\ntree\nelem a 1 1\nend\n"
+
 
 def _help_for(said: str) -> str:
     """What a user can do about some refusals."""

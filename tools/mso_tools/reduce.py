@@ -16,10 +16,11 @@ from .trees import Tree, balanced
 
 @dataclass(frozen=True)
 class Part:
-    """Some elements that are joined already: their tree and their form."""
+    """Some elements that are joined already: their tree, their form, and the first of them in the given order."""
 
     tree: Tree
     form: Form
+    first: int
 
 
 class Classes:
@@ -65,11 +66,14 @@ def components(echelon: Echelon, count: int) -> list[list[int]]:
 
 
 def joined_classes(forms: Forms, parts: Sequence[Part]) -> list[Part]:
-    """The parts with every series and every parallel class joined into one, again and again until nothing changes."""
+    """The parts with every series and every parallel class joined into one, again and again until nothing changes.
+
+    They come in the order of their first elements.
+    """
     joining = _Joining(forms, parts)
     while joining.waiting:
         joining.join_class(*joining.waiting.popleft())
-    return list(joining.parts.values())
+    return sorted(joining.parts.values(), key=lambda part: part.first)
 
 
 _SERIES, _PARALLEL = 0, 1
@@ -118,7 +122,7 @@ class _Joining:
         form: Form = ()
         for part in taken:
             form = self.forms.plus(form, part.form)
-        self._add(Part(balanced([part.tree for part in taken]), form))
+        self._add(Part(balanced([part.tree for part in taken]), form, min(part.first for part in taken)))
 
 
 def reduced_columns(field: Field, parts: Sequence[Part], height: int) -> list[bytes]:

@@ -23,12 +23,12 @@ class Source:
     """What a file holds.
 
     `dual` says that the user's matroid is the dual of this one (the rows generate a code); `bound` is a width that no tree goes
-    below, where one is known; `network` is there where the file is one.
+    below (0 says nothing); `network` is there where the file is one.
     """
 
     matroid: Matroid
     dual: bool
-    bound: Optional[int]
+    bound: int
     network: Optional[Network]
 
 
@@ -54,7 +54,7 @@ def network_source(
 def code_source(path: str, order: Optional[int], role: Optional[Role]) -> Source:
     """The matroid of a code's or a matrix's file."""
     code = read_code(path, order, role)
-    return Source(code.matroid, code.role is Role.GENERATOR, None, None)
+    return Source(code.matroid, code.role is Role.GENERATOR, 0, None)
 
 
 def is_network_file(path: str) -> bool:

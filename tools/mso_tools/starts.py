@@ -117,8 +117,9 @@ def _tree_of_fronts(order: Sequence[int], forms: Forms, parts: Sequence[Form], c
 class _Merging:
     """Parts that grow by joins, with what each light word still has of them."""
 
-    def __init__(self, words: Sequence[Word], forms: Forms, parts: Sequence[Form]) -> None:
+    def __init__(self, words: Sequence[Word], forms: Forms, parts: Sequence[Form], going_on: Callable[[], bool]) -> None:
         self.forms = forms
+        self.going_on = going_on
         self.form: dict[int, Form] = dict(enumerate(parts))
         self.tree: dict[int, Tree] = {element: element for element in self.form}
         self.words = {number: set(word) for number, word in enumerate(words) if len(word) > 1}
@@ -131,9 +132,13 @@ class _Merging:
 
     def _entry(self, number: int) -> tuple[int, int, int]:
         """The boundary of all that a word has, and the number of its parts: the lightest is merged first."""
+        if not self.going_on():
+            raise TooWide
         form: Form = ()
-        for part in self.words[number]:
+        for part in sorted(self.words[number]):
             form = self.forms.plus(form, self.form[part])
+            if len(form) > WIDE:
+                break
         return (len(form), len(self.words[number]), number)
 
     def lightest(self) -> Optional[set[int]]:
@@ -177,8 +182,11 @@ class _Merging:
 
 
 def merged_words(words: Sequence[Word], forms: Forms, parts: Sequence[Form], going_on: Callable[[], bool]) -> Tree:
-    """Takes the word whose parts together have the least boundary, joins them, and goes on so. Raises `TooWide`."""
-    merging = _Merging(words, forms, parts)
+    """Takes the word whose parts together have the least boundary, joins them, and goes on so.
+
+    Raises `TooWide` also where `going_on` says no before the end.
+    """
+    merging = _Merging(words, forms, parts, going_on)
     word = merging.lightest()
     while word is not None:
         part = min(word)
@@ -187,8 +195,6 @@ def merged_words(words: Sequence[Word], forms: Forms, parts: Sequence[Form], goi
             merging.join(one, other)
             part = one
         merging.weigh_again(part)
-        if not going_on():
-            raise TooWide
         word = merging.lightest()
     return balanced(list(merging.tree.values()))
 

@@ -56,8 +56,12 @@ class ExitCodesTest(unittest.TestCase):
     def test_too_wide(self) -> None:
         path = self.folder / "k12.edges"
         path.write_text("".join(f"{one} {other}\n" for one, other in combinations(range(12), 2)))
-        self.check(Exit.TOO_WIDE, "No tree is narrower than 7", "mso_from_graph.py", path, "--seconds", "0.5")
+        self.check(Exit.TOO_WIDE, "No tree is narrower than 7", "mso_from_graph.py", path)
         self.check(Exit.DONE, "shape", "mso_from_graph.py", path, "--seconds", "0.1", "--force")
+        path = self.folder / "random.txt"
+        chance = Random(2)
+        path.write_text("".join("".join(str(chance.randrange(2)) for _ in range(60)) + "\n" for _ in range(30)))
+        self.check(Exit.TOO_WIDE, "The widest node separates", "mso_from_code.py", path, "--seconds", "0.2")
 
     def test_program_is_missing(self) -> None:
         words = ("mso_ask.py", FILES / "abilene.csv", "--lightest", "cut", "--mso", self.folder / "mso")
@@ -67,6 +71,8 @@ class ExitCodesTest(unittest.TestCase):
     def test_program_refuses(self) -> None:
         words = ("mso_ask.py", FILES / "abilene.csv", "--formula", "decide ind(")
         self.check(Exit.PROGRAM_REFUSED, "refused formula", *words)
+        words = ("mso_from_graph.py", FILES / "abilene.csv", "--job", "least X ind(Y)")
+        self.check(Exit.PROGRAM_REFUSED, "refused unbound Y", *words)
 
     def test_names(self) -> None:
         table = self.folder / "names"
@@ -218,17 +224,17 @@ class AnswersTest(unittest.TestCase):
 
     def test_path_and_cut_between(self) -> None:
         self.path.write_text("a b 1\nb c 2\na c 5\nc d 2\n")
-        self.assertEqual(self.ask("--lightest", "path", "--between", "a", "c"), ["3\ta-b b-c"])
-        self.assertEqual(self.ask("--lightest", "cut", "--between", "a", "c"), ["6\ta-b a-c"])
+        self.assertEqual(self.ask("--lightest", "path", "--between", "a", "c"), ["3\ta-b\tb-c"])
+        self.assertEqual(self.ask("--lightest", "cut", "--between", "a", "c"), ["6\ta-b\ta-c"])
         self.path.write_text("a b 1\nc d 1\n")
         self.assertEqual(self.ask("--lightest", "path", "--between", "a", "c"), ["none"])
 
     def test_changes(self) -> None:
         self.path.write_text("a b 0.5\nb c 1\na c 5\n")
         changes = ("--then", "a-b=3.5", "--then", "a-c=fails")
-        self.assertEqual(self.ask("--lightest", "cut", *changes), ["1.5\ta-b b-c", "4.5\ta-b b-c", "1\tb-c"])
-        self.assertEqual(self.ask("--lightest", "tree", *changes), ["1.5\ta-b b-c", "4.5\ta-b b-c", "4.5\ta-b b-c"])
-        self.assertEqual(self.ask("--lightest", "cycle", *changes), ["6.5\ta-b b-c a-c", "9.5\ta-b b-c a-c", "none"])
+        self.assertEqual(self.ask("--lightest", "cut", *changes), ["1.5\ta-b\tb-c", "4.5\ta-b\tb-c", "1\tb-c"])
+        self.assertEqual(self.ask("--lightest", "tree", *changes), ["1.5\ta-b\tb-c", "4.5\ta-b\tb-c", "4.5\ta-b\tb-c"])
+        self.assertEqual(self.ask("--lightest", "cycle", *changes), ["6.5\ta-b\tb-c\ta-c", "9.5\ta-b\tb-c\ta-c", "none"])
 
     def test_formulas_are_read(self) -> None:
         """Each formula that is asked is one, and holds where it must."""

@@ -71,8 +71,9 @@ class NetworkFilesTest(FileTest):
     def test_dimacs(self) -> None:
         network = self.network("n.col", "c a triangle\np edge 3 3\ne 1 2\ne 2 3\ne 1 3\n")
         self.assertEqual(network.labels(), ["1-2", "2-3", "1-3"])
-        network = self.network("n.gr", "p sp 2 1\na 1 2 7\n")
-        self.assertEqual(network.matroid(2).weights.whole, [7])
+        network = self.network("n.gr", "p sp 3 4\na 1 2 7\na 2 1 7\na 2 3 5\na 3 2 6\n")
+        self.assertEqual(network.matroid(2).weights.whole, [7, 5, 6])
+        self.assertEqual(self.network("n.gr", "p tw 3 2\n1 2\n2 3\n").labels(), ["1-2", "2-3"])
 
     @unittest.skipUnless(importlib.util.find_spec("networkx"), "networkx is not there")
     def test_graphml(self) -> None:
@@ -102,6 +103,8 @@ class NetworkFilesTest(FileTest):
         self.check_refused(lambda: self.network("n.edges", "# none\n").matroid(2), None, "no element")
         many = "".join(f"a{k} b\n" for k in range(4097))
         self.check_refused(lambda: self.network("n.edges", many).matroid(2), None, "4097 elements")
+        wide = "".join(f"a{k} b{k}\n" for k in range(2100))
+        self.assertEqual(len(self.network("n.edges", wide).matroid(2).rows), 2100)
         self.check_refused(lambda: self.network("n.edges", "a b 1\na b 2e12\n").matroid(2), 2, "does not fit")
         self.check_refused(lambda: self.network("n.edges", "a b 1e11\na b 0.001\n").matroid(2), 1, "does not fit")
 

@@ -86,7 +86,7 @@ class PicturesTest(unittest.TestCase):
     def test_marks_of_an_answer(self) -> None:
         with tempfile.TemporaryDirectory() as folder:
             answer, picture = Path(folder) / "answer", Path(folder) / "picture.dot"
-            answer.write_text("1\tseattle-denver\n5.9\tindy-chicago ny-dc\n")
+            answer.write_text("1\tseattle-denver\n5.9\tindy-chicago\tny-dc\n")
             words = ("network", FILES / "abilene.csv", "--answer", answer, "-o", picture)
             self.assertEqual(command("mso_draw.py", *words).returncode, 0)
             self.assertEqual(picture.read_text().count("penwidth=3"), 2)
