@@ -94,7 +94,7 @@ def _source(chosen: argparse.Namespace) -> Source:
 
 def _is_network(chosen: argparse.Namespace) -> bool:
     if chosen.kind is not None:
-        return chosen.kind == "network"
+        return bool(chosen.kind == "network")
     return chosen.format is not None or is_network_file(chosen.file) or chosen.lightest in _NETWORK_WORDS
 
 
@@ -162,13 +162,14 @@ class Prices:
 def _job(program: Program, source: Source, found: Found, question: Question, prices: Prices) -> str:
     """The header that `mso` makes of the matrix and the tree, the question, and an edit for each change."""
     matroid = source.matroid
+    edits: list[str] = []
     if isinstance(question, Least):
         whole = [question.weight_in_job(element, weight) for element, weight in enumerate(prices.given.whole)]
         matroid = replace(matroid, weights=Weights(whole, prices.given.scale))
+        edits = [_edit(change, source, question, prices) for change in prices.changes]
     header = program.output(["build"], build_text(matroid, found.tree))
     if question.on_dual != source.dual:
         header = program.output(["dual"], header)
-    edits = [_edit(change, source, question, prices) for change in prices.changes]
     return job_text(header, question.line) + "".join(edits)
 
 

@@ -43,7 +43,7 @@ def _words() -> argparse.ArgumentParser:
 def _draw_tree(chosen: argparse.Namespace) -> Exit:
     job = read_job(chosen.file)
     names = {name for node in job.nodes for name in [getattr(node, "name", None)] if name}
-    marked = set(filter(None, chosen.set.split(",")))
+    marked = {name for name in chosen.set.split(",") if name}
     if marked - names:
         raise ToolError(Exit.REFUSED, f"{chosen.file}: there is no element `{min(marked - names)}`")
     interest = None

@@ -15,6 +15,7 @@ from __future__ import annotations
 from collections.abc import Callable, Iterator, Sequence
 from dataclasses import dataclass, field as dataclass_field
 from enum import Enum
+from functools import partial
 from random import Random
 from typing import Optional
 
@@ -245,7 +246,7 @@ class _Core:
         if sum(map(len, columns)) > _DIGITS_A_COLUMN * len(columns):
             return
         for by_fill in (True, False, False):
-            yield f"elimination of {name}", lambda by_fill=by_fill: starts.eliminated_rows(columns, by_fill, self.chance)
+            yield f"elimination of {name}", partial(starts.eliminated_rows, columns, by_fill, self.chance)
 
     def _interval_tree(self, order: Sequence[int]) -> Tree:
         return starts.interval_tree(order, self.forms, self.parts)

@@ -22,7 +22,7 @@ from enum import Enum
 from typing import Optional
 
 from .errors import refused
-from .fields import ORDERS, field
+from .fields import ORDERS, field, support
 from .graph_files import read_lines
 from .linear import orthogonal_rows, reduced_echelon
 from .matroid import Labels, Matroid, check_count, read_weight, rows_that_fit, whole_weights
@@ -171,8 +171,8 @@ def _alist(path: str, lines: Sequence[_Line]) -> Matroid:
     for column, places in enumerate(column_lists):
         for row in places:
             matrix[row][column] = 1
-    for (number, _), row, places in zip(lines[4 + columns :], matrix, row_lists):
-        if {place for place, digit in enumerate(row) if digit} != set(places):
+    for (number, _), digits, places in zip(lines[4 + columns :], matrix, row_lists):
+        if support(bytes(digits)) != sorted(places):
             raise refused(path, number, "the list of the row is not what the lists of the columns say")
     return _matroid(path, 2, [bytes(row) for row in matrix], _Preamble())
 

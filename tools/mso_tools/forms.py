@@ -11,12 +11,13 @@ and the form of a disjoint union is the sum of the forms. So a set can gain and 
 
 from __future__ import annotations
 
-from typing import Protocol, Union
+from typing import Any, Protocol
 
 from .fields import Field, columns_of, lead
 from .linear import number_of_support, orthogonal_rows, reduced_echelon
 
-Vector = Union[int, bytes]
+Vector = Any
+"""A whole number over GF(2), one bit a digit; over the other fields a row of digits."""
 Term = tuple[Vector, Vector]
 Form = tuple[Term, ...]
 
@@ -113,7 +114,9 @@ class DigitForms:
 
 def forms_over(field: Field) -> Forms:
     """The arithmetic of forms over a field."""
-    return BinaryForms() if field.order == 2 else DigitForms(field)
+    if field.order == 2:
+        return BinaryForms()
+    return DigitForms(field)
 
 
 def term_of(field: Field, y: bytes, z: bytes) -> Form:

@@ -175,16 +175,20 @@ class _Columns:
 def _columns(path: str, line: int, header: list[str], weight_column: Optional[str]) -> _Columns:
     if weight_column is not None and weight_column.lower() not in header:
         raise refused(path, line, f"there is no column `{weight_column}`; the header has {', '.join(header)}")
-    place = {
-        "tail": _place(header, _TAIL_COLUMNS),
-        "head": _place(header, _HEAD_COLUMNS),
-    }
-    for what, found in place.items():
-        if found is None:
-            names = _TAIL_COLUMNS if what == "tail" else _HEAD_COLUMNS
-            raise refused(path, line, f"the header has no column for the {what} of a link: one of {', '.join(names)}")
-    weight = _place(header, (weight_column.lower(),) if weight_column else _WEIGHT_COLUMNS)
-    return _Columns(len(header), place["tail"], place["head"], weight, _place(header, _LABEL_COLUMNS))
+    return _Columns(
+        count=len(header),
+        tail=_end_place(path, line, header, "tail", _TAIL_COLUMNS),
+        head=_end_place(path, line, header, "head", _HEAD_COLUMNS),
+        weight=_place(header, (weight_column.lower(),) if weight_column else _WEIGHT_COLUMNS),
+        label=_place(header, _LABEL_COLUMNS),
+    )
+
+
+def _end_place(path: str, line: int, header: list[str], what: str, names: Sequence[str]) -> int:
+    place = _place(header, names)
+    if place is None:
+        raise refused(path, line, f"the header has no column for the {what} of a link: one of {', '.join(names)}")
+    return place
 
 
 def _place(header: list[str], names: Iterable[str]) -> Optional[int]:

@@ -139,7 +139,9 @@ class _Search:
         """The nodes of a walk from the join above `moved`, not into `moved`: first those upwards, then those downwards."""
         arrays, chance = self.arrays, self.chance
         at = arrays.above[moved]
-        came, ups, downs = moved, [], []
+        came = moved
+        ups: list[int] = []
+        downs: list[int] = []
         while True:
             choices = [] if arrays.left[at] == _NONE else [arrays.left[at], arrays.right[at]]
             if not downs and arrays.above[at] != _NONE:

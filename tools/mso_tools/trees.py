@@ -7,7 +7,7 @@ from __future__ import annotations
 
 from collections.abc import Iterator, Sequence
 from dataclasses import dataclass
-from typing import Callable, TypeVar, Union
+from typing import Callable, Optional, TypeVar, Union
 
 from .forms import Form, Forms
 
@@ -50,15 +50,19 @@ def leaves(tree: Tree) -> list[int]:
 
 def depth(tree: Tree) -> int:
     """The number of joins above the deepest leaf."""
-    return fold(tree, lambda _: 0, lambda left, right: 1 + max(left, right))
+
+    def join(left: int, right: int) -> int:
+        return 1 + max(left, right)
+
+    return fold(tree, lambda _: 0, join)
 
 
 def balanced(trees: Sequence[Tree]) -> Tree:
     """One tree of the given ones, in their order, by joins of neighbours; there is at least one."""
-    level = list(trees)
+    level: list[Tree] = list(trees)
     while len(level) > 1:
-        pairs = [(level[place], level[place + 1]) for place in range(0, len(level) - 1, 2)]
-        level = pairs + (level[-1:] if len(level) % 2 else [])
+        last = level[-1:] if len(level) % 2 else []
+        level = [*zip(level[0::2], level[1::2]), *last]
     return level[0]
 
 
@@ -137,7 +141,7 @@ def centred(tree: Tree) -> Tree:
     """The same tree without a root, given the root that makes it least deep."""
     top = fold(tree, _tall_leaf, _tall_join)
     best = top
-    rest = None
+    rest: Optional[_Tall] = None
     while top.children:
         top, beside = _by_height(top)
         rest = beside if rest is None else _tall_join(beside, rest)

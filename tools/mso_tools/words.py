@@ -23,7 +23,7 @@ def light_words(field: Field, sides: Iterable[list[bytes]], chance: Random, goin
     """
     found: set[Word] = set()
     for rows in sides:
-        basis = _BinaryBasis(rows) if field.order == 2 else _DigitBasis(field, rows)
+        basis: _Basis = _BinaryBasis(rows) if field.order == 2 else _DigitBasis(field, rows)
         columns = len(rows[0]) if rows else 0
         found.update(lightest_words(_walk(basis, chance, going_on), None)[: 3 * columns])
     return found
@@ -70,7 +70,10 @@ class _DigitBasis:
         return {frozenset(support(row)) for row in self.rows}
 
 
-def _walk(basis: Union[_BinaryBasis, _DigitBasis], chance: Random, going_on: Callable[[], bool]) -> set[Word]:
+_Basis = Union[_BinaryBasis, _DigitBasis]
+
+
+def _walk(basis: _Basis, chance: Random, going_on: Callable[[], bool]) -> set[Word]:
     """The supports of the rows of some bases, from the given one on."""
     seen = basis.words()
     changes = _ROUNDS * len(basis.rows)
