@@ -12,8 +12,10 @@ from pathlib import Path
 from mso_tree_search import Found, Options, Strategy, WIDTH_LIMIT, find_tree
 
 from .errors import Exit, ToolError
+from .fields import field
 from .matroid import Matroid
 from .program import Program
+from .shrink import shrunk
 from .texts import build_text, job_text
 from .trees import DEPTH_LIMIT
 
@@ -34,6 +36,7 @@ def add_search_options(words: argparse.ArgumentParser) -> None:
     group.add_argument("--seconds", type=_positive, default=5.0, metavar="S", help="time for local search (5)")
     group.add_argument("--seed", type=int, default=1, metavar="N", help="seed of the random choices (1)")
     group.add_argument("--width", type=int, default=1, metavar="W", help="stop where a tree of this width is found (1)")
+    group.add_argument("--shrink", action="store_true", help="where no tree fits, look for elements to take out (slow)")
     ways = group.add_mutually_exclusive_group()
     ways.add_argument(
         "--given", dest="strategy", action="store_const", const=Strategy.GIVEN, default=Strategy.SEARCH,
@@ -99,8 +102,8 @@ def search(matroid: Matroid, chosen: argparse.Namespace, bound: int, force: bool
         found = find_tree(matroid.order, matroid.rows, matroid.count, options)
     finally:
         progress.clear()
-    if not force:
-        _check_fits(found, matroid)
+    if not found.fits and not force:
+        raise ToolError(Exit.TOO_WIDE, "\n".join(_advice(found, matroid, chosen.shrink)))
     return found
 
 
@@ -110,22 +113,36 @@ def told(found: Found) -> str:
     return f"width {found.width} ({found.widths.widest} {nodes_word}), depth {found.depth}, found in {found.seconds:.1f} s"
 
 
-def _check_fits(found: Found, matroid: Matroid) -> None:
-    """Ends with advice where the tree is too wide or too deep for `mso`."""
-    if found.fits:
-        return
+def _advice(found: Found, matroid: Matroid, shrink: bool) -> list[str]:
+    """What to say of a tree that is too wide or too deep for `mso`."""
     if found.depth > DEPTH_LIMIT:
-        raise ToolError(Exit.TOO_WIDE, f"{told(found)}: mso takes a depth of {DEPTH_LIMIT} at most. Try another --seed.")
+        return [f"{told(found)}: mso takes a depth of {DEPTH_LIMIT} at most. Try another --seed."]
     below, outside = found.two_sides()
     few = ", ".join(matroid.labels.labels[element] for element in below[:4])
-    lines = [
+    return [
         f"{told(found)}: mso takes {WIDTH_LIMIT} at most.",
         f"The widest node separates {len(below)} elements ({few}{', ..' if len(below) > 4 else ''}) from {outside}.",
-        "More time may help: --seconds 60, another --seed.",
+        *(_removals(found, matroid) if shrink else ["More time may help: --seconds 60, another --seed. So may --shrink."]),
         *_WHAT_HELPS,
     ]
-    raise ToolError(Exit.TOO_WIDE, "\n".join(lines))
 
+
+def _removals(found: Found, matroid: Matroid) -> list[str]:
+    """Elements without which a tree fits, and what the answer is then."""
+    removals = shrunk(field(matroid.order), matroid.rows, found.tree, matroid.count, WIDTH_LIMIT, _SHRINK_SECONDS)
+    if removals is None:
+        return ["No few elements were found without which it fits."]
+    words = [
+        f"{'contracting' if removal.contracted else 'deleting'} {matroid.labels.labels[removal.element]}" for removal in removals
+    ]
+    return [
+        f"It fits after {', '.join(words)}.",
+        "A minor answers for some sets alone: where elements are deleted, for the circuits (cycles, codewords) that avoid them;",
+        "where they are contracted, for the cocircuits (cuts) that avoid them.",
+    ]
+
+
+_SHRINK_SECONDS = 0.5
 
 _WHAT_HELPS = (
     "What else helps: take out elements that cannot matter to the question. Of parallel elements (between the same two vertices)",

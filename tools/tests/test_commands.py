@@ -193,7 +193,7 @@ def random_network(chance: Random, least_weight: int) -> str:
     """A connected network with a few links, as an edge list."""
     vertices = chance.randint(3, 5)
     pairs = [(chance.randrange(vertex), vertex) for vertex in range(1, vertices)]
-    pairs += [tuple(chance.sample(range(vertices), 2)) for _ in range(chance.randint(1, 4))]
+    pairs += [(chance.randrange(vertices), chance.randrange(vertices)) for _ in range(chance.randint(1, 4))]
     return "".join(f"v{one} v{other} {chance.randint(least_weight, 9)}\n" for one, other in pairs)
 
 

@@ -9,10 +9,11 @@ from random import Random
 from mso_tools.bounds import contraction_bound
 from mso_tools.fields import ORDERS, field
 from mso_tools.forms import Form, element_forms, forms_over
+from mso_tools.shrink import contracted_rows, shrunk
 from mso_tools.trees import caterpillar, centred, depth, leaves, nodes, shortened, widths
 from mso_tree_search import Options, Strategy, find_tree
 
-from .support import Edges, boundary, complete, digits, grid, incidence, random_rows
+from .support import Edges, boundary, complete, digits, grid, incidence, random_rows, rank
 
 COUNTED = Options(moves=6000)
 """A search that is the same on every machine."""
@@ -122,6 +123,27 @@ class WidthsTest(unittest.TestCase):
         self.assertGreaterEqual(find_tree(2, rows, 24, Options(strategy=Strategy.PATH)).width, 9)
         tree = find_tree(2, rows, 24, Options(strategy=Strategy.GIVEN)).tree
         self.assertEqual(leaves(tree), list(range(24)))
+
+
+class ShrinkTest(unittest.TestCase):
+    def test_removals_make_a_tree_fit(self) -> None:
+        for edges, limit in ((complete(6), 2), (grid(4, 5), 2)):
+            rows = incidence(edges)
+            tree = find_tree(2, rows, len(edges), COUNTED).tree
+            removals = shrunk(field(2), rows, tree, len(edges), limit, 0.2)
+            self.assertIsNotNone(removals)
+            self.assertEqual(len({removal.element for removal in removals or []}), len(removals or []))
+
+    def test_contraction_is_that_of_the_matroid(self) -> None:
+        chance = Random(8)
+        for _ in range(40):
+            order, count = chance.choice(ORDERS), chance.randint(2, 7)
+            rows = random_rows(chance, order, count, chance.randint(1, 4))
+            element = chance.randrange(count)
+            fewer = contracted_rows(field(order), rows, element)
+            inside = [other for other in range(count) if other != element and chance.random() < 0.5]
+            expected = rank(order, rows, [*inside, element]) - rank(order, rows, [element])
+            self.assertEqual(rank(order, fewer, inside), expected)
 
 
 def golay() -> list[bytes]:
