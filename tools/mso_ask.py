@@ -107,7 +107,7 @@ def _question(chosen: argparse.Namespace, source: Source, ever: Sequence[int]) -
     if chosen.formula is not None:
         return _own_formula(chosen.formula, chosen.dual)
     if chosen.property is not None:
-        asked = property_named(chosen.property)
+        asked = property_named(chosen.property, source.matroid.count)
     else:
         asked = minor_named(chosen.minor, source.matroid.order)
     return replace(asked, on_dual=asked.on_dual != chosen.dual)

@@ -106,9 +106,9 @@ _PROPERTIES = {
     "connected": Decide("each two elements lie in a common circuit", _CONNECTED, False),
     "3-connected": Decide("the matroid has no 1-separation and no 2-separation", _THREE_CONNECTED, False),
     "cosimple": Decide("each cut has three elements or more", _PAIRS_INDEPENDENT, True),
-    "survives-1": Decide("no failure of one link takes a vertex off", "all x ind(x)", True),
-    "survives-2": Decide("no failure of two links takes a vertex off", _PAIRS_INDEPENDENT, True),
-    "survives-3": Decide("no failure of three links takes a vertex off", "all x all y all z ind(x|y|z)", True),
+    "survives-1": Decide("no failure of one link cuts the network", "all x ind(x)", True),
+    "survives-2": Decide("no failure of two links cuts the network", _PAIRS_INDEPENDENT, True),
+    "survives-3": Decide("no failure of three links cuts the network", "all x all y all z ind(x|y|z)", True),
     "two-independent": Decide("two independent sets cover all elements", _COVERED, False),
     "two-bases": Decide("there are two disjoint bases (two spanning trees without a common link)", _COVERED, True),
 }
@@ -117,8 +117,10 @@ PROPERTIES = tuple(_PROPERTIES)
 """What can be asked by `--is`."""
 
 
-def property_named(name: str) -> Decide:
-    """The question of a word of `PROPERTIES`."""
+def property_named(name: str, count: int) -> Decide:
+    """The question of a word of `PROPERTIES`, for a matroid with so many elements."""
+    if name == "3-connected" and count < 4:
+        raise ToolError(Exit.REFUSED, "3-connected is asked of four elements or more")
     return _PROPERTIES[name]
 
 

@@ -98,7 +98,7 @@ def random_file(chance: Random, folder: Path) -> Path:
         path.write_text(f"generators {' '.join(format(one, 'o') for one in generators)}\nlength {chance.randint(1, 12)}\n")
         return path
     path = folder / "network.edges"
-    vertices = chance.randint(1, 12)
+    vertices = chance.randint(1, chance.choice((4, 12, 30)))
     links = [
         (chance.randrange(vertices), chance.randrange(vertices), chance.randint(-3, 20)) for _ in range(chance.randint(1, 2 * vertices))
     ]
@@ -249,7 +249,7 @@ class AnswersTest(unittest.TestCase):
 
     def test_query_lines_fit(self) -> None:
         weights = [1, 2, 3]
-        asked = [property_named(name).line for name in PROPERTIES] + [minor_named(name, 2).line for name in MINORS]
+        asked = [property_named(name, 9).line for name in PROPERTIES] + [minor_named(name, 2).line for name in MINORS]
         asked += [lightest("cycle", weights).line, lightest("tree", weights).line, lightest_between("cut", weights, 2).line]
         for line in asked:
             self.assertLess(len(line), 4096)
