@@ -160,17 +160,22 @@ class Prices:
 
 
 def _job(program: Program, source: Source, found: Found, question: Question, prices: Prices) -> str:
-    """The header that `mso` makes of the matrix and the tree, the question, and an edit for each change."""
+    """The header that `mso` makes of the matrix and the tree, and the question."""
     matroid = source.matroid
-    edits: list[str] = []
     if isinstance(question, Least):
         whole = [question.weight_in_job(element, weight) for element, weight in enumerate(prices.given.whole)]
         matroid = replace(matroid, weights=Weights(whole, prices.given.scale))
-        edits = [_edit(change, source, question, prices) for change in prices.changes]
     header = program.output(["build"], build_text(matroid, found.tree))
     if question.on_dual != source.dual:
         header = program.output(["dual"], header)
-    return job_text(header, question.line) + "".join(edits)
+    return job_text(header, question.line)
+
+
+def _edits(source: Source, question: Question, prices: Prices) -> str:
+    """An edit for each change of a lightest set."""
+    if not isinstance(question, Least):
+        return ""
+    return "".join(_edit(change, source, question, prices) for change in prices.changes)
 
 
 def _edit(change: Change, source: Source, question: Least, prices: Prices) -> str:
@@ -208,10 +213,9 @@ def _told(
 
 
 def _prove(chosen: argparse.Namespace, program: Program, job: str, answer: str) -> None:
-    """Writes a certificate of the first answer, and has it checked."""
+    """Writes a certificate of the answer for the file as it is, and has it checked."""
     path = chosen.certificate or f"{chosen.file}.cert"
-    question_only = "".join(line for line in job.splitlines(keepends=True) if not line.startswith("weight "))
-    certificate = program.output(["prove"], question_only)
+    certificate = program.output(["prove"], job)
     write_file(path, certificate)
     verdict = program.output(["verify"], certificate).strip()
     if verdict != f"yes {answer}":
@@ -228,7 +232,7 @@ def _ask(chosen: argparse.Namespace) -> Exit:
     found = search(source.matroid, chosen, source.bound, False)
     searched = time.monotonic()
     job = _job(program, source, found, question, prices)
-    answers = program.output(["run"], job).splitlines()
+    answers = program.output(["run"], job + _edits(source, question, prices)).splitlines()
     _print_answers(chosen, source, question, prices, answers)
     if chosen.prove:
         _prove(chosen, program, job, answers[0])

@@ -26,6 +26,11 @@ def quoted(text: str) -> str:
     return '"' + text.replace("\\", "\\\\").replace('"', '\\"').replace("\n", "\\n") + '"'
 
 
+def matrix_text(rows: Sequence[bytes]) -> str:
+    """A matrix as it is written in a job."""
+    return "/".join(text_of(row) for row in rows) or "."
+
+
 def space_text(space: Space) -> str:
     """A boundary space by the rows of its basis."""
     if space is None:
@@ -75,9 +80,13 @@ def _node_style(node: Node, label_of: Mapping[str, str], chosen: set[str], space
 
 
 def _columns_box(job: Job, label_of: Mapping[str, str], interest: int, spaces: Optional[list[Space]]) -> list[str]:
-    """A note beside the node of interest: the boundary columns of the elements below it, and the space of the chosen ones."""
+    """A note beside the node of interest: its operator, the boundary columns of the elements below, the space of the chosen."""
     columns = job.columns()[interest]
-    words = [f"boundary {job.nodes[interest].boundary}"]
+    node = job.nodes[interest]
+    words = [f"boundary {node.boundary}"]
+    if not isinstance(node, Leaf):
+        matrices = (node.operator.first, node.operator.second, node.operator.third)
+        words += [f"G{number} {matrix_text(matrix)}" for number, matrix in enumerate(matrices, start=1)]
     words += [f"{label_of.get(name, name)}: {text_of(column)}" for name, column in columns.items()]
     if spaces is not None:
         words.append(f"chosen: {space_text(spaces[interest])}")

@@ -7,13 +7,15 @@ from functools import lru_cache
 from random import Random
 
 from mso_tools.bounds import contraction_bound
+from mso_tools.code_files import read_code
 from mso_tools.fields import ORDERS, field
 from mso_tools.forms import Form, element_forms, forms_over
+from mso_tools.graph_files import read_network
 from mso_tools.shrink import contracted_rows, shrunk
 from mso_tools.trees import caterpillar, centred, depth, leaves, nodes, shortened, widths
 from mso_tree_search import Options, Strategy, find_tree
 
-from .support import Edges, boundary, complete, digits, grid, incidence, random_rows, rank
+from .support import FILES, Edges, boundary, complete, digits, grid, incidence, random_rows, rank
 
 COUNTED = Options(moves=6000)
 """A search that is the same on every machine."""
@@ -106,6 +108,27 @@ class WidthsTest(unittest.TestCase):
         self.check(golay(), 6)
         self.check(digits("100122", "010212", "001221"), 2, 3)
         self.check(digits("100123", "010132", "001111"), 2, 4)
+
+    def test_families_of_codes(self) -> None:
+        for rank_of_code in (3, 4):
+            count = 2**rank_of_code - 1
+            hamming = [bytes(place >> row & 1 for place in range(1, count + 1)) for row in range(rank_of_code)]
+            self.check(hamming, rank_of_code - 1)
+            reed_muller = [bytes([1] * (count + 1)), *(b"\0" + row for row in hamming)]
+            self.check(reed_muller, rank_of_code - 1)
+
+    def test_convolutional_codes(self) -> None:
+        """The given order reaches the memory, and the search does not miss it."""
+        for name, memory in (("5_7", 2), ("15_17", 3), ("23_35", 4), ("53_75", 5), ("133_171", 6)):
+            matroid = read_code(str(FILES / f"conv_{name}.txt"), None, None).matroid
+            given = find_tree(2, matroid.rows, matroid.count, Options(strategy=Strategy.GIVEN))
+            self.assertEqual(given.width, memory)
+            self.assertLessEqual(find_tree(2, matroid.rows, matroid.count, Options(moves=2000)).width, memory)
+
+    def test_networks_of_the_gallery(self) -> None:
+        for name, width in (("abilene.csv", 1), ("nsfnet.edges", 2), ("ladder.edges", 1), ("streets.csv", 2)):
+            matroid = read_network(str(FILES / name), None, None).matroid(2)
+            self.assertEqual(find_tree(2, matroid.rows, matroid.count, COUNTED).width, width)
 
     def test_signs_change_no_width(self) -> None:
         for order in ORDERS:
