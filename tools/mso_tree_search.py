@@ -223,7 +223,8 @@ class _Core:
             except starts.TooWide:
                 continue
             self._report(name, min(tries, key=_cost))
-        return sorted(tries or [self._weighed(balanced(range(self.reduced.count)))], key=_cost)
+        narrow = [tried for tried in tries if tried.width <= starts.WIDE]
+        return sorted(narrow or tries or [self._weighed(balanced(range(self.reduced.count)))], key=_cost)
 
     def _ways(self) -> Iterator[tuple[str, Callable[[], Tree]]]:
         """The names of the starts and how each is made."""

@@ -17,6 +17,7 @@ WIDE = 24
 _WINDOW = 40
 _ALL_INTERVALS = 150
 _LOOKED_AT = 24
+_MANY_ROWS = 64
 
 
 class TooWide(Exception):
@@ -243,7 +244,7 @@ def eliminated_rows(columns: Sequence[Sequence[int]], by_fill: bool, chance: Ran
     """For each row in turn all parts that have a digit in it are joined, the pair with the fewest rows together first.
 
     `columns[k]` lists the rows in which element k has a digit. The next row is the one of least fill, or of least degree,
-    where two rows are neighbours if some part has digits in both.
+    where two rows are neighbours if some part has digits in both. Raises `TooWide` where a part has digits in many rows.
     """
     rows_of: dict[int, frozenset[int]] = {element: frozenset(rows) for element, rows in enumerate(columns)}
     trees: dict[int, Tree] = {element: element for element in rows_of}
@@ -297,6 +298,8 @@ def _join_all(
                 parts_of[row].discard(other)
                 parts_of[row].add(one)
         rows_of[one] |= rows_of.pop(other)
+        if len(rows_of[one]) > _MANY_ROWS:
+            raise TooWide
         trees[one] = (trees[one], trees.pop(other))
         members.discard(other)
     return min(members)
