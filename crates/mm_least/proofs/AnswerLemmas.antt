@@ -27,11 +27,11 @@ use Rattle.mm_least.specs.declared.row.Origin.TheVariants.{Out, Taken, Pair}
 use Rattle.mm_least.specs.NodeRowsValue.{NodeValue}
 use Rattle.mm_least.specs.Rows.{shown}
 use Rattle.mm_least.specs.Candidates.{Candidate, candidate, typed, pairs_with, pairs_of}
-use Rattle.mm_least.specs.RowLaws.{put_all_fits}
+use Rattle.mm_least.specs.RowLaws.{append_fits, put_all_fits}
 use Rattle.mm_least.specs.LeastCalls.{StandFor}
 use Rattle.mm_least.specs.LeastSets.{type_of_set, of_origin, set_at_leaf, name_at_leaf, gathered, sets_of, names_of, IsAscending, IsFirstAccepted, RowsAreFirstSets, ComesFrom, AreLinked, is_accepted, IsLightest, IsLightestBefore}
 use Rattle.mm_least.proofs.SetLemmas.{all_mapped}
-use Rattle.mm_least.proofs.FirstLemmas.{HasFirsts, shows, all_append, rows_first}
+use Rattle.mm_least.proofs.FirstLemmas.{HasFirsts, shows, rows_first}
 
 -- ---- rows come from rows that are there
 
@@ -43,7 +43,7 @@ module _ (j : Value → Value → Value) (left right : ℕ) where
   pairs_linked : (i : ℕ) (ps qs : List (Value × ℤ)) → i + length ps ≤ left → length qs ≤ right → AllFit (λ (c : Candidate Origin). ComesFrom left right c.origin) (pairs_of j ps i qs)
   pairs_linked i [] qs a b = tt
   pairs_linked i (p ∷ ps) qs a b =
-      all_append (λ (c : Candidate Origin). ComesFrom left right c.origin) (pairs_with j p i qs 0) (pairs_of j ps (suc i) qs)
+      append_fits (λ (c : Candidate Origin). ComesFrom left right c.origin) (pairs_with j p i qs 0) (pairs_of j ps (suc i) qs)
       (with_linked p i 0 qs (omega (arith, a)) (omega (arith, b))) (pairs_linked (suc i) ps qs (omega (arith, a)) b)
 
 count_typed : (F : Formula) (lists : List (List Value)) (rows : List Row) → length (typed F lists (shown rows)) ≡ length rows

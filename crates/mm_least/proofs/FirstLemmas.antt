@@ -25,7 +25,7 @@ use Rattle.mm_least.specs.declared.row.Origin.{Origin}
 use Rattle.mm_least.specs.NodeRowsValue.{NodeValue}
 use Rattle.mm_least.specs.Rows.{shown}
 use Rattle.mm_least.specs.Candidates.{Candidate, put_all, held, typed, leaf_candidates, pairs_with, pairs_of}
-use Rattle.mm_least.specs.RowLaws.{put_all_fits}
+use Rattle.mm_least.specs.RowLaws.{append_fits, put_all_fits}
 use Rattle.mm_least.specs.LeastCalls.{StandFor}
 use Rattle.mm_least.specs.LeastSets.{type_of_set, of_origin, set_at_leaf, sets_of, IsAscending}
 use Rattle.mm_least.proofs.SetLemmas.{AnyFit, any_left, any_right, any_to, all_to, all_map, any_map, any_mapped, any_contains, Offers, first_sets, ascending_sets}
@@ -36,10 +36,6 @@ use Rattle.mm_least.proofs.SetLemmas.{AnyFit, any_left, any_right, any_to, all_t
 abbrev pairs : (As Bs : List (List Bool)) → List (List Bool)
 pairs [] Bs = []
 pairs (A ∷ As) Bs = map (λ B. A ++ B) Bs ++ pairs As Bs
-
-pub all_append : {K : Type 0} (P : K → Type 0) (ks js : List K) → AllFit P ks → AllFit P js → AllFit P (ks ++ js)
-all_append P [] js h k = k
-all_append P (i ∷ ks) js h k = (h.0, all_append P ks js h.1 k)
 
 all_each : {K : Type 0} (P : K → Type 0) (ks : List K) → ((k : K) → P k) → AllFit P ks
 all_each P [] f = tt
@@ -54,7 +50,7 @@ Before X Y = precedes X Y ≡ true
 
 ascending_append : (Xs Ys : List (List Bool)) → IsAscending Xs → IsAscending Ys → AllFit (λ X. AllFit (Before X) Ys) Xs → IsAscending (Xs ++ Ys)
 ascending_append [] Ys a b h = b
-ascending_append (X ∷ Xs) Ys a b h = (all_append (Before X) Xs Ys a.0 h.0, ascending_append Xs Ys a.1 b h.1)
+ascending_append (X ∷ Xs) Ys a b h = (append_fits (Before X) Xs Ys a.0 h.0, ascending_append Xs Ys a.1 b h.1)
 
 ascending_with : (A : List Bool) (Bs : List (List Bool)) → IsAscending Bs → IsAscending (map (λ B. A ++ B) Bs)
 ascending_with A [] b = tt
@@ -69,7 +65,7 @@ before_parts A A' B B' l h = precedes-parts A A' B B' l ∙ ap (λ b. b || (not 
 before_pairs : (n : ℕ) (A B : List Bool) (As Bs : List (List Bool)) → length A ≡ n → AllFit (λ C. length C ≡ n) As → AllFit (Before A) As → AllFit (Before (A ++ B)) (pairs As Bs)
 before_pairs n A B [] Bs l ls h = tt
 before_pairs n A B (C ∷ As) Bs l ls h =
-    all_append (Before (A ++ B)) (map (λ D. C ++ D) Bs) (pairs As Bs)
+    append_fits (Before (A ++ B)) (map (λ D. C ++ D) Bs) (pairs As Bs)
     (all_map (λ D. C ++ D) (Before (A ++ B)) Bs (all_each (λ D. Before (A ++ B) (C ++ D)) Bs (λ D. before_parts A C B D (l ∙ sym ls.0) h.0)))
     (before_pairs n A B As Bs l ls.1 h.1)
 
@@ -151,7 +147,7 @@ module _
       → AllFit IsOfSet (pairs_of j (map (shows us left) Cs) i (map (shows vs right) Bs))
   pairs_fit i [] ls ms h = tt
   pairs_fit i (C ∷ Cs) ls ms h =
-      all_append IsOfSet (pairs_with j (shows us left C) i (map (shows vs right) Bs) 0) (pairs_of j (map (shows us left) Cs) (suc i) (map (shows vs right) Bs))
+      append_fits IsOfSet (pairs_with j (shows us left C) i (map (shows vs right) Bs) 0) (pairs_of j (map (shows us left) Cs) (suc i) (map (shows vs right) Bs))
       (with_fit C i 0 Bs ls.0 h.0 ms (at_places Bs [])) (pairs_fit (suc i) Cs ls.1 ms h.1)
 
   module _ (hl : AreFirsts us n left As) (hr : AreFirsts vs m right Bs) (al : IsAscending As) (ar : IsAscending Bs) where

@@ -32,7 +32,7 @@ use Rattle.mm_least.specs.Candidates.{Candidate, candidate, put_all, types_of, t
 use Rattle.mm_least.specs.BestLaws.{best-count}
 use Rattle.mm_least.specs.Passes.{AreWithin, Passed, AreTooMany, Passes, AreOperands}
 use Rattle.mm_least.specs.RowCalls.{IsLeaf, IsJoinRows, MadeRows}
-use Rattle.mm_least.proofs.PassLemmas.{within-stays}
+use Rattle.mm_least.specs.RowLaws.{within-stays}
 use Rattle.mm_least.proofs.WalkLemmas.{passed_none, passed_then, too_many_then, typed_stays}
 
 -- ---- the marks of a leaf

@@ -1,6 +1,6 @@
 -- The walk over candidates, step by step.
 use Rattle.std.proofs.Common.{◌≡◌, ◌<◌, ◌≤◌, ◌+◌, ◌-◌, ℕ, zero, suc, Bool, true, false, not, ◌||◌, if◌then◌else◌, ℤ, int_lt, nat_eq, List, [], ◌∷◌, ◌++◌, filter, sum_by, length, get_or, Result, Ok, Err, refl, sym, ap, ◌∙◌, subst, arith}
-use Rattle.std.proofs.Common.{◌+ℤ◌, w64, SFits, to_z, of_z}
+use Rattle.std.proofs.Common.{◌+ℤ◌, pos, w64, SFits, to_z, of_z}
 use Rattle.std.proofs.lemmas.Int.{to_z-of_z}
 use Rattle.std.proofs.lemmas.List.{length-map, map-append}
 use Rattle.mm_logic.specs.Formula.{Formula}
@@ -10,18 +10,21 @@ use Rattle.mm_logic.specs.Occurrence.{same, is_among, distinct, fresh, nodes as 
 use Rattle.mm_logic.specs.Growth.{root, type_at, no_values, missing_cells, Grown, AllBegin}
 use Rattle.mm_logic.proofs.BagLemmas.{sum_by-cons}
 use Rattle.mm_logic.proofs.OccurrenceLemmas.{same_flip}
-use Rattle.mm_logic.proofs.GrowthLemmas.{members-distinct, AllBegin-grown, type_at-begins, within-begins, list_cells-grown}
+use Rattle.mm_logic.proofs.GrowthLemmas.{members-distinct, AllBegin-grown, none_missing_cells, type_at-begins, within-begins, list_cells-grown}
 use Rattle.mm_states.specs.Calls.{Numbers}
 use Rattle.mm_states.specs.declared.letter.AutoFault.{AutoFault}
 use Rattle.mm_states.specs.declared.letter.AutoFault.TheVariants as auto
-use Rattle.mm_nodes.specs.Demands.{IsExact}
+use Rattle.mm_nodes.specs.Demands.{IsExact, IsWithin}
 use Rattle.mm_nodes.specs.declared.keeps.KeepFault.{KeepFault}
 use Rattle.mm_nodes.specs.declared.keeps.KeepFault.TheVariants.{Full, NoMemory}
 use Rattle.mm_nodes.proofs.EmptyLemmas.{root_none}
-use Rattle.mm_nodes.proofs.RoomLemmas.{root-grows, exact-then}
+use Rattle.mm_nodes.proofs.RoomLemmas.{root-grows, exact-then, exact-cells, within-append, within-left, within-then, within-cells}
 use Rattle.mm_least.specs.declared.row.Row.{Row}
 use Rattle.mm_least.specs.declared.row.Origin.{Origin}
-use Rattle.mm_least.specs.Rows.{put_row, AddsRow, shown}
+use Rattle.mm_least.specs.declared.row.Origin.TheVariants.{Out}
+use Rattle.mm_least.specs.RowLaws.{types_within, held-stays, within-stays}
+use Rattle.mm_least.specs.Rows.{put_row, Puts, AddsRow, shown}
+use Rattle.mm_least.proofs.RowLemmas.{adds_in_place}
 use Rattle.mm_least.specs.Candidates.{Candidate, candidate, put, held}
 use Rattle.mm_least.specs.BestLaws.{Different, same_itself, put-longer}
 use Rattle.mm_least.specs.Passes.{AreWithin, AreTooMany, Passes, IsFaultOf}
@@ -159,19 +162,22 @@ module _ (F : Formula) (lists : List (List Value)) (different : Different (root 
       by true false e i rest = subst (λ ss. AreWithin F lists (shown ss)) (sym (λ k. at_place (e k) (i k))) h
       by false less e i rest = subst (λ ss. AreWithin F lists (shown ss)) (sym (λ k. at_place (e k) (i k))) (h.0, rest)
 
--- rows hold the same where the lists grow
-pub held-stays : (F : Formula) (olds nows : List (List Value)) (rows : List Row) → AllBegin olds nows → AreWithin F olds (shown rows) → held F nows rows ≡ held F olds rows
-held-stays F olds nows [] b h = refl
-held-stays F olds nows (r ∷ rows) b h = (λ i. candidate (type_at-begins F olds nows r.id b h.0 i) r.weight r.origin ∷ held-stays F olds nows rows b h.1 i)
-
-pub within-stays : (F : Formula) (olds nows : List (List Value)) (ps : List (ℕ × ℤ)) → AllBegin olds nows → AreWithin F olds ps → AreWithin F nows ps
-within-stays F olds nows [] b h = tt
-within-stays F olds nows (p ∷ ps) b h = (within-begins F olds nows p.0 b h.0, within-stays F olds nows ps b h.1)
-
 pub held-length : (F : Formula) (lists : List (List Value)) (rows : List Row) → length (held F lists rows) ≡ length rows
 held-length F lists rows = length-map rows (λ r. candidate (type_at F lists r.id) r.weight r.origin)
 
 -- ---- one candidate
+
+-- nothing is missing of a type that is in exact lists
+nothing_missing : (F : Formula) (lists : List (List Value)) (v : Value) (id : ℕ) → IsExact F lists → id < length (root F lists) → type_at F lists id ≡ v → missing_cells F lists (v ∷ []) ≡ 0
+nothing_missing F lists v id e l t =
+    let r : Row = record { id = id; weight = pos 0; origin = Out } in
+    let there : IsWithin (v ∷ []) (root F lists ++ []) =
+    within-then (v ∷ []) (root F lists) (root F lists ++ []) (subst (λ w. IsWithin (w ∷ []) (root F lists)) t (types_within F lists (r ∷ []) (l, tt))) (within-left (root F lists) []) in
+    let all = within-cells F (root F lists ++ v ∷ []) (root F lists ++ []) (within-append (root F lists) (v ∷ []) (root F lists ++ []) (within-left (root F lists) []) there) in
+    let one = exact-cells F lists (v ∷ []) e in
+    let none = exact-cells F lists [] e in
+    let zero_cells = none_missing_cells F lists in
+    omega (arith, all, one, none, zero_cells)
 
 module _ (F : Formula) (olds mids : List (List Value)) (v : Value) (id : ℕ) (w : ℤ) (o : Origin) (rows0 rows : List Row) (room0 room : ℕ)
     (n : Numbers F v olds mids id) (exact : IsExact F olds) (within : AreWithin F olds (shown rows0)) (fits : missing_cells F olds (v ∷ []) ≤ room0) where
@@ -222,6 +228,19 @@ module _ (F : Formula) (olds mids : List (List Value)) (v : Value) (id : ℕ) (w
       let one = ap length best in
       let two = held-length F mids (put_row row rows0) in
       omega (arith, less, one, two, u, more, fits)
+
+-- a candidate of a type that has a row takes nothing of the room
+pub known_passes : (F : Formula) (olds mids : List (List Value)) (v : Value) (id : ℕ) (w : ℤ) (o : Origin) (rows0 rows : List Row) (room0 : ℕ)
+    → Numbers F v olds mids id → IsExact F olds → AreWithin F olds (shown rows0) → missing_cells F olds (v ∷ []) ≤ room0 → id < length (root F olds)
+    → (result : Result (Unit {0}) KeepFault) → Puts (record { id = id; weight = w; origin = o }) rows0 rows result → Passes F olds mids (candidate v w o ∷ []) rows0 rows room0 room0 result
+known_passes F olds mids v id w o rows0 rows room0 n exact within fits l result a =
+    let starts = AllBegin-grown olds mids (occurring F (v ∷ [])) n.grown in
+    let none = nothing_missing F olds v id exact l (sym (type_at-begins F olds mids id starts l) ∙ n.value) in
+    let more = list_cells-grown (parts F) olds mids (occurring F (v ∷ [])) n.grown in
+    let same_cells : 0 ≡ list_cells (parts F) mids - list_cells (parts F) olds = omega (arith, none, more) in
+    let all : room0 ≡ room0 - 0 = omega arith in
+    one_passes F olds mids v id w o rows0 rows room0 room0 n exact within fits 0 same_cells result
+    (subst (λ r. AddsRow (record { id = id; weight = w; origin = o }) rows0 rows r room0 result) all (adds_in_place (record { id = id; weight = w; origin = o }) rows0 rows room0 result a))
 
 pub one_refused : (F : Formula) (olds : List (List Value)) (v : Value) (w : ℤ) (o : Origin) (rows0 : List Row) (room0 : ℕ) (fault : AutoFault) (e : KeepFault) → IsFaultOf fault e
     → (fault ≡ auto.Full → room0 < missing_cells F olds (v ∷ [])) → e ≡ Full → AreTooMany F olds (candidate v w o ∷ []) rows0 room0

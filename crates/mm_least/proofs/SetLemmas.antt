@@ -8,7 +8,7 @@ use Rattle.mm_logic_laws.proofs.LeastLemmas.{AtMost, at_most-then, is_less, not_
 use Rattle.mm_states.specs.Lists.{AllFit}
 use Rattle.mm_least.specs.Candidates.{Candidate, put, put_all, types_of}
 use Rattle.mm_least.specs.BestLaws.{Different, same_is_equal, same_itself, put_all-different}
-use Rattle.mm_least.specs.RowLaws.{put_all_fits}
+use Rattle.mm_least.specs.RowLaws.{append_fits, or_later, put_all_fits}
 use Rattle.mm_least.specs.LeastSets.{IsAscending}
 
 -- ---- some of a list
@@ -18,10 +18,6 @@ AnyFit P [] = ⊥
 AnyFit P (k ∷ ks) = P k ⊎ AnyFit P ks
 
 module _ {K : Type 0} where
-  pub any_last : (P : K → Type 0) (ks : List K) (k : K) → P k → AnyFit P (ks ++ k ∷ [])
-  any_last P [] k p = inl p
-  any_last P (j ∷ ks) k p = inr (any_last P ks k p)
-
   pub any_left : (P : K → Type 0) (ks js : List K) → AnyFit P ks → AnyFit P (ks ++ js)
   any_left P (k ∷ ks) js (inl p) = inl p
   any_left P (k ∷ ks) js (inr h) = inr (any_left P ks js h)
@@ -49,10 +45,6 @@ module _ {K : Type 0} where
   pub all_of : (P : K → Type 0) (ks : List K) → AllFit P ks → All P ks
   all_of P [] h = All-nil P
   all_of P (k ∷ ks) h = All-cons P k ks h.0 (all_of P ks h.1)
-
-  pub all_last : (P : K → Type 0) (ks : List K) (k : K) → AllFit P ks → P k → AllFit P (ks ++ k ∷ [])
-  all_last P [] k h p = (p, tt)
-  all_last P (j ∷ ks) k h p = (h.0, all_last P ks k h.1 p)
 
   pub all_there : (ks : List K) → AllFit (λ k. AnyFit (λ j. j ≡ k) ks) ks
   all_there [] = tt
@@ -126,7 +118,7 @@ module _ {From : Type 0} (ws : List ℤ) (set : From → List Bool) where
     where
       by : (b less : Bool) → same d.type c.type ≡ b → int_lt c.weight d.weight ≡ less → AnyFit Q (d ∷ ds) → (AnyFit Q ds → AnyFit Q (put c ds))
           → AnyFit Q (if b then (if less then ds ++ c ∷ [] else d ∷ ds) else d ∷ put c ds)
-      by true true e l (inl q) rest = any_last Q ds c (up d q (sym (same_is_equal d.type c.type e), lighter c d wc wds.0 l))
+      by true true e l (inl q) rest = any_right Q ds (c ∷ []) (inl (up d q (sym (same_is_equal d.type c.type e), lighter c d wc wds.0 l)))
       by true true e l (inr k) rest = any_left Q ds (c ∷ []) k
       by true false e l k rest = k
       by false less e l (inl q) rest = inl q
@@ -138,7 +130,7 @@ module _ {From : Type 0} (ws : List ℤ) (set : From → List Bool) where
     where
       by : (b less : Bool) → same d.type c.type ≡ b → int_lt c.weight d.weight ≡ less → AnyFit (IsAsGood c) (put c ds)
           → AnyFit (IsAsGood c) (if b then (if less then ds ++ c ∷ [] else d ∷ ds) else d ∷ put c ds)
-      by true true e l rest = any_last (IsAsGood c) ds c (refl, inl refl)
+      by true true e l rest = any_right (IsAsGood c) ds (c ∷ []) (inl (refl, inl refl))
       by true false e l rest = inl (same_is_equal d.type c.type e, not_lighter c d wc wds.0 l p.0)
       by false less e l rest = inr rest
 
@@ -146,7 +138,7 @@ module _ {From : Type 0} (ws : List ℤ) (set : From → List Bool) where
   ascends_last [] c a p = (tt, tt)
   ascends_last (d ∷ ds) c a p = (
     all_map (λ e. set e.origin) (λ Y. precedes (set d.origin) Y ≡ true) (ds ++ c ∷ [])
-        (all_last (Precedes d) ds c (all_mapped (λ e. set e.origin) (λ Y. precedes (set d.origin) Y ≡ true) ds a.0) p.0),
+        (append_fits (Precedes d) ds (c ∷ []) (all_mapped (λ e. set e.origin) (λ Y. precedes (set d.origin) Y ≡ true) ds a.0) (p.0, tt)),
     ascends_last ds c a.1 p.1,
   )
 
@@ -200,10 +192,6 @@ module _ {From : Type 0} (ws : List ℤ) (set : From → List Bool) where
   all_ascend (c ∷ cs) ds a b p = all_ascend cs (put c ds) a.1 (ascends c ds b (precede_first c cs ds p)) (precede_rest c cs ds a p)
 
 -- ---- one of each type
-
-or_later : (a b : Bool) → b ≡ true → (a || b) ≡ true
-or_later true b e = refl
-or_later false b e = e
 
 module _ {From : Type 0} where
   among : (v : Value) (ds : List (Candidate From)) → AnyFit (λ d. d.type ≡ v) ds → is_among (types_of ds) v ≡ true

@@ -48,7 +48,7 @@ one_or false b c f g e = g e
 or_here : (a b : Bool) → a ≡ true → (a || b) ≡ true
 or_here a b e = ap (λ (x : Bool). x || b) e
 
-or_later : (a b : Bool) → b ≡ true → (a || b) ≡ true
+pub or_later : (a b : Bool) → b ≡ true → (a || b) ≡ true
 or_later true b e = refl
 or_later false b e = e
 
@@ -57,7 +57,7 @@ passes_there [] id d l p e = absurd (omega (arith, l))
 passes_there (v ∷ vs) zero d l p e = or_here (p v) _ e
 passes_there (v ∷ vs) (suc id) d l p e = or_later (p v) _ (passes_there vs id d (omega (arith, l)) p e)
 
-types_within : (F : Formula) (lists : List (List Value)) (rows : List Row) → AreWithin F lists (shown rows) → IsWithin (types_of (held F lists rows)) (root F lists)
+pub types_within : (F : Formula) (lists : List (List Value)) (rows : List Row) → AreWithin F lists (shown rows) → IsWithin (types_of (held F lists rows)) (root F lists)
 types_within F lists [] h p e = cc
 types_within F lists (r ∷ rows) h p e =
     one_or (p (type_at F lists r.id)) _ _ (passes_there (root F lists) r.id Dead h.0 p) (types_within F lists rows h.1 p) e
@@ -101,7 +101,7 @@ join_has fr op a b n h =
 
 -- ---- where the lists grow
 
-held-stays : (F : Formula) (olds nows : List (List Value)) (rows : List Row) → AllBegin olds nows → AreWithin F olds (shown rows) → held F nows rows ≡ held F olds rows
+pub held-stays : (F : Formula) (olds nows : List (List Value)) (rows : List Row) → AllBegin olds nows → AreWithin F olds (shown rows) → held F nows rows ≡ held F olds rows
 held-stays F olds nows [] b h = refl
 held-stays F olds nows (r ∷ rows) b h = (λ i. candidate (type_at-begins F olds nows r.id b h.0 i) r.weight r.origin ∷ held-stays F olds nows rows b h.1 i)
 
@@ -109,7 +109,7 @@ typed-stays : (F : Formula) (olds nows : List (List Value)) (ps : List (ℕ × �
 typed-stays F olds nows [] b h = refl
 typed-stays F olds nows (p ∷ ps) b h = (λ i. (type_at-begins F olds nows p.0 b h.0 i, p.1) ∷ typed-stays F olds nows ps b h.1 i)
 
-within-stays : (F : Formula) (olds nows : List (List Value)) (ps : List (ℕ × ℤ)) → AllBegin olds nows → AreWithin F olds ps → AreWithin F nows ps
+pub within-stays : (F : Formula) (olds nows : List (List Value)) (ps : List (ℕ × ℤ)) → AllBegin olds nows → AreWithin F olds ps → AreWithin F nows ps
 within-stays F olds nows [] b h = tt
 within-stays F olds nows (p ∷ ps) b h = (within-begins F olds nows p.0 b h.0, within-stays F olds nows ps b h.1)
 
@@ -156,17 +156,17 @@ same_itself a = refl
 
 -- ---- what can be joined
 
-module _ {From : Type 0} (P : Candidate From → Type 0) where
-  last_fits : (ds : List (Candidate From)) (c : Candidate From) → AllFit P ds → P c → AllFit P (ds ++ c ∷ [])
-  last_fits [] c h p = (p, tt)
-  last_fits (d ∷ ds) c h p = (h.0, last_fits ds c h.1 p)
+pub append_fits : {K : Type 0} (P : K → Type 0) (ks js : List K) → AllFit P ks → AllFit P js → AllFit P (ks ++ js)
+append_fits P [] js h l = l
+append_fits P (k ∷ ks) js h l = (h.0, append_fits P ks js h.1 l)
 
+module _ {From : Type 0} (P : Candidate From → Type 0) where
   put_fits : (c : Candidate From) (ds : List (Candidate From)) → P c → AllFit P ds → AllFit P (put c ds)
   put_fits c [] p h = (p, tt)
   put_fits c (d ∷ ds) p h = by (same d.type c.type) (int_lt c.weight d.weight) (put_fits c ds p h.1)
     where
       by : (b less : Bool) → AllFit P (put c ds) → AllFit P (if b then (if less then ds ++ c ∷ [] else d ∷ ds) else d ∷ put c ds)
-      by true true rest = last_fits ds c h.1 p
+      by true true rest = append_fits P ds (c ∷ []) h.1 (p, tt)
       by true false rest = h
       by false less rest = (h.0, rest)
 
@@ -179,14 +179,9 @@ module _ (P Q R : Value → ℤ → Type 0) (j : Value → Value → Value) (bot
   with_fits p i [] n h k = tt
   with_fits p i (q ∷ qs) n h k = (both p.0 q.0 p.1 q.1 h k.0, with_fits p i qs (suc n) h k.1)
 
-  append_fits : (cs ds : List (Candidate Origin)) → AllFit (λ (c : Candidate Origin). R c.type c.weight) cs → AllFit (λ (c : Candidate Origin). R c.type c.weight) ds
-      → AllFit (λ (c : Candidate Origin). R c.type c.weight) (cs ++ ds)
-  append_fits [] ds h k = k
-  append_fits (c ∷ cs) ds h k = (h.0, append_fits cs ds h.1 k)
-
   of_fits : (ps qs : List (Value × ℤ)) (n : ℕ) → AllFit (λ p. P p.0 p.1) ps → AllFit (λ q. Q q.0 q.1) qs → AllFit (λ (c : Candidate Origin). R c.type c.weight) (pairs_of j ps n qs)
   of_fits [] qs n h k = tt
-  of_fits (p ∷ ps) qs n h k = append_fits (pairs_with j p n qs 0) (pairs_of j ps (suc n) qs) (with_fits p n qs 0 h.0 k) (of_fits ps qs (suc n) h.1 k)
+  of_fits (p ∷ ps) qs n h k = append_fits (λ (c : Candidate Origin). R c.type c.weight) (pairs_with j p n qs 0) (pairs_of j ps (suc n) qs) (with_fits p n qs 0 h.0 k) (of_fits ps qs (suc n) h.1 k)
 
 typed_fits : (P : Value → ℤ → Type 0) (F : Formula) (lists : List (List Value)) (rows : List Row) → AllFit (λ (c : Candidate Origin). P c.type c.weight) (held F lists rows)
     → AllFit (λ p. P p.0 p.1) (typed F lists (shown rows))

@@ -111,12 +111,14 @@ impl NodeRows {
         steps.tick();
         let mut rows = Vec::new(alloc);
         let mut rest = room;
+        let whole = room + automaton.cells();
         match add_pairs(
             alloc,
             automaton,
             op,
             &left.rows,
             &right.rows,
+            whole,
             &mut rows,
             &mut rest,
         ) {

@@ -15,7 +15,7 @@ ghost use Rattle.mm_least.specs.Rows.{shown};
 ghost use Rattle.mm_least.specs.Candidates.{candidate, leaf_candidates, typed, pairs_with, pairs_of};
 ghost use Rattle.mm_least.specs.Passes.{AreWithin, Passes, IsFaultOf, AreOperands, AreLight, most_sum};
 
-use crate::row::add_row;
+use crate::row::{add_new_row, add_row, place_of, replace_row};
 use crate::{LeastFault, Origin, Row};
 use mm_nodes::letter_of;
 use mm_ops::Op;
@@ -106,7 +106,7 @@ pub(crate) fn add_leaf<A: Automaton>(
     }
 }
 
-/// One candidate of a join.
+/// One candidate of a join. The room, the rows and the cells sum to `whole` throughout.
 fn add_pair<A: Automaton>(
     alloc: Global,
     automaton: &mut A,
@@ -114,9 +114,11 @@ fn add_pair<A: Automaton>(
     left: &Row,
     right: &Row,
     origin: Origin,
+    whole: u64,
     rows: &mut Vec<Row>,
     room: &mut u64,
 ) -> Result<(), LeastFault>
+    requires whole { whole ≡ room.old + length rows.old.items + list_cells (parts (A.shape automaton.old)) (A.lists automaton.old) }
     requires can { CanJoin (A.shape automaton.old) (A.field automaton.old) (A.lists automaton.old) op.now
         left.now.id right.now.id room.old }
     requires exact { IsExact (A.shape automaton.old) (A.lists automaton.old) }
@@ -131,17 +133,20 @@ fn add_pair<A: Automaton>(
         (left.now.weight +ℤ right.now.weight) origin ∷ []) rows.old.items rows.new.items room.old room.new result }
 {
     let weight = left.weight + right.weight;
-    let before = automaton.cells();
     match automaton.join(alloc, op, left.id, right.id, *room) {
-        Ok(id) => {
-            *room -= automaton.cells() - before;
-            add_row(Row { id, weight, origin }, rows, room)
-        }
+        Ok(id) => match place_of(rows, id) {
+            // The type has a row: it was in the lists, and no cell was missing.
+            Some(place) => replace_row(Row { id, weight, origin }, place, rows),
+            None => {
+                *room = whole - rows.len() as u64 - automaton.cells();
+                add_new_row(Row { id, weight, origin }, rows, room)
+            }
+        },
         Err(fault) => Err(fault_of(fault)),
     }
 }
 
-/// The candidates of one left row.
+/// The candidates of one left row. The room, the rows and the cells sum to `whole` throughout.
 fn add_pairs_with<A: Automaton>(
     alloc: Global,
     automaton: &mut A,
@@ -149,9 +154,11 @@ fn add_pairs_with<A: Automaton>(
     left: &Row,
     place: u32,
     right: &[Row],
+    whole: u64,
     rows: &mut Vec<Row>,
     room: &mut u64,
 ) -> Result<(), LeastFault>
+    requires whole { whole ≡ room.old + length rows.old.items + list_cells (parts (A.shape automaton.old)) (A.lists automaton.old) }
     requires over { letters.IsOver (A.shape automaton.old) (A.field automaton.old) op.now.f }
     requires left { IsOperand (A.shape automaton.old) op.now.f op.now.op.t1 (A.lists automaton.old) left.now.id }
     requires left_light { nat_abs left.now.weight ≤ most_sum }
@@ -172,7 +179,9 @@ fn add_pairs_with<A: Automaton>(
 {
     for k in 0..right.len() {
         let origin = Origin::Pair(place, k as u32);
-        match add_pair(alloc, automaton, op, left, &right[k], origin, rows, room) {
+        match add_pair(
+            alloc, automaton, op, left, &right[k], origin, whole, rows, room,
+        ) {
             Ok(()) => {}
             Err(fault) => return Err(fault),
         }
@@ -180,16 +189,18 @@ fn add_pairs_with<A: Automaton>(
     Ok(())
 }
 
-/// The candidates of a join.
+/// The candidates of a join. The room, the rows and the cells sum to `whole` throughout.
 pub(crate) fn add_pairs<A: Automaton>(
     alloc: Global,
     automaton: &mut A,
     op: &Op,
     left: &[Row],
     right: &[Row],
+    whole: u64,
     rows: &mut Vec<Row>,
     room: &mut u64,
 ) -> Result<(), LeastFault>
+    requires whole { whole ≡ room.old + length rows.old.items + list_cells (parts (A.shape automaton.old)) (A.lists automaton.old) }
     requires over { letters.IsOver (A.shape automaton.old) (A.field automaton.old) op.now.f }
     requires left { AreOperands (A.shape automaton.old) op.now.f op.now.op.t1 (A.lists automaton.old) (shown left.now) }
     requires left_light { AreLight (shown left.now) }
@@ -210,7 +221,9 @@ pub(crate) fn add_pairs<A: Automaton>(
         rows.old.items rows.new.items room.old room.new result }
 {
     for k in 0..left.len() {
-        match add_pairs_with(alloc, automaton, op, &left[k], k as u32, right, rows, room) {
+        match add_pairs_with(
+            alloc, automaton, op, &left[k], k as u32, right, whole, rows, room,
+        ) {
             Ok(()) => {}
             Err(fault) => return Err(fault),
         }

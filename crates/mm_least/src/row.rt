@@ -1,6 +1,6 @@
 //! One type at a node, with the least set of that type.
 
-ghost use Rattle.std.specs.Prelude.{◌≡◌, ◌<◌, ◌+◌, ℕ, length, Some, true};
+ghost use Rattle.std.specs.Prelude.{◌≡◌, ◌<◌, ◌+◌, ℕ, length, None, Some, true};
 ghost use Rattle.mm_least.specs.Rows.{IsPlaceIn, Appends, Puts, AddsRow, shown};
 
 use crate::LeastFault;
@@ -30,7 +30,7 @@ pub struct Row {
 }
 
 /// The place of the row of a type.
-fn place_of(rows: &[Row], id: TypeId) -> Option<usize>
+pub(crate) fn place_of(rows: &[Row], id: TypeId) -> Option<usize>
     ensures { IsPlaceIn rows.now id result }
 {
     for k in 0..rows.len() {
@@ -52,7 +52,7 @@ fn push_row(row: Row, rows: &mut Vec<Row>) -> Result<(), LeastFault>
 }
 
 /// Puts a row last, in place of the one of its type where it weighs less.
-fn replace_row(row: Row, place: usize, rows: &mut Vec<Row>) -> Result<(), LeastFault>
+pub(crate) fn replace_row(row: Row, place: usize, rows: &mut Vec<Row>) -> Result<(), LeastFault>
     requires { IsPlaceIn rows.old.items row.id (Some place) }
     ensures { Puts row rows.old.items rows.new.items result }
 {
@@ -71,14 +71,20 @@ pub(crate) fn add_row(row: Row, rows: &mut Vec<Row>, room: &mut u64) -> Result<(
 {
     match place_of(rows, row.id) {
         Some(place) => replace_row(row, place, rows),
-        None => {
-            if *room == 0 {
-                return Err(LeastFault::Full);
-            }
-            *room -= 1;
-            push_row(row, rows)
-        }
+        None => add_new_row(row, rows, room),
     }
+}
+
+/// Puts the row of another type last; it takes one of the room.
+pub(crate) fn add_new_row(row: Row, rows: &mut Vec<Row>, room: &mut u64) -> Result<(), LeastFault>
+    requires { IsPlaceIn rows.old.items row.id None }
+    ensures { AddsRow row rows.old.items rows.new.items room.old room.new result }
+{
+    if *room == 0 {
+        return Err(LeastFault::Full);
+    }
+    *room -= 1;
+    push_row(row, rows)
 }
 
 /// Whether rows show the same types and weights, place by place.

@@ -1,47 +1,79 @@
-use Rattle.std.proofs.Common.{◌-◌, ◌<◌, ◌+ℤ◌, sym, ap, ◌∙◌, subst, arith}
+use Rattle.std.proofs.Common.{rules, ◌≡◌, ◌-◌, ◌<◌, ◌+ℤ◌, pos, sym, ap, ◌∙◌, subst, length, refl, Some, arith, w64, SFits}
+use Rattle.std.proofs.lemmas.Int.{ints}
 use Rattle.mm_logic.specs.Formula.{Formula}
 use Rattle.mm_logic.specs.Occurrence.{nodes as parts, list_cells}
+use Rattle.mm_logic.specs.Growth.{root}
 use Rattle.mm_states.specs.Calls.{value_of_join}
-use Rattle.mm_least.proofs.PassLemmas.{added_cells, cells_fit, cells_below, one_passes, one_refused, weight_is}
-use Rattle.std.proofs.Common.{rules, w64, SFits}
-use Rattle.std.proofs.lemmas.Int.{ints}
-use Rattle.mm_least.specs.Rows.{AddsRow}
+use Rattle.mm_least.specs.declared.row.Origin.TheVariants.{Out}
+use Rattle.mm_least.specs.declared.row.Row.{Row}
+use Rattle.mm_least.specs.Rows.{IsPlaceIn, Puts, AddsRow}
+use Rattle.mm_least.proofs.PassLemmas.{added_cells, cells_fit, cells_below, one_passes, known_passes, one_refused, weight_is}
+use Rattle.mm_least.proofs.WalkLemmas.{fit_at}
 use Rattle.mm_least.proofs.pass.add_pair.Goals as goal
 
 pub cells-requires : goal.cells-requires
 cells-requires g c =
+    let olds = g.A.Automaton.lists c.args.automaton.now in
+    let v = value_of_join (g.A.Automaton.shape c.args.automaton.now) olds c.args.op.now c.args.left.now.id c.args.right.now.id in
+    let rows = c.args.rows.now.items in
     subst (λ (F : Formula). list_cells (parts F) (g.A.Automaton.lists c.join.new.self) < 4294967296) (sym c.in-Ok.ensures.shape)
-    (cells_below (g.A.Automaton.shape c.args.automaton.now) (g.A.Automaton.lists c.args.automaton.now) (g.A.Automaton.lists c.join.new.self) (value_of_join (g.A.Automaton.shape c.args.automaton.now) (g.A.Automaton.lists c.args.automaton.now) c.args.op.now c.args.left.now.id c.args.right.now.id) c.in-Ok.id (c.args.left.now.weight +ℤ c.args.right.now.weight) c.args.origin c.args.rows.now.items c.args.rows.now.items c.args.room.now c.args.room.now
+    (cells_below (g.A.Automaton.shape c.args.automaton.now) olds (g.A.Automaton.lists c.join.new.self) v c.in-Ok.id (c.args.left.now.weight +ℤ c.args.right.now.weight) c.args.origin rows rows c.args.room.now c.args.room.now
     c.in-Ok.ensures.answer.0 c.requires.exact c.requires.within c.in-Ok.ensures.answer.1 4294967296 c.requires.can.roomy)
 
-pub overflow_sub-room : goal.overflow_sub-room
-overflow_sub-room g c =
-    let more = added_cells (g.A.Automaton.shape c.args.automaton.now) (g.A.Automaton.lists c.args.automaton.now) (g.A.Automaton.lists c.join.new.self) (value_of_join (g.A.Automaton.shape c.args.automaton.now) (g.A.Automaton.lists c.args.automaton.now) c.args.op.now c.args.left.now.id c.args.right.now.id) c.in-Ok.id (c.args.left.now.weight +ℤ c.args.right.now.weight) c.args.origin c.args.rows.now.items c.args.rows.now.items c.args.room.now c.args.room.now c.in-Ok.ensures.answer.0 c.requires.exact c.requires.within c.in-Ok.ensures.answer.1 in
+pub overflow_sub-room-in-None : goal.overflow_sub-room-in-None
+overflow_sub-room-in-None g c =
+    let olds = g.A.Automaton.lists c.args.automaton.now in
+    let v = value_of_join (g.A.Automaton.shape c.args.automaton.now) olds c.args.op.now c.args.left.now.id c.args.right.now.id in
+    let rows = c.args.rows.now.items in
+    let fits = cells_fit (g.A.Automaton.shape c.args.automaton.now) olds (g.A.Automaton.lists c.join.new.self) v c.in-Ok.id (c.args.left.now.weight +ℤ c.args.right.now.weight) c.args.origin rows rows c.args.room.now c.args.room.now
+    c.in-Ok.ensures.answer.0 c.requires.exact c.requires.within c.in-Ok.ensures.answer.1 in
     let now = c.cells.ensures ∙ ap (λ (F : Formula). list_cells (parts F) (g.A.Automaton.lists c.join.new.self)) c.in-Ok.ensures.shape in
-    let before = c.cells-before.ensures in
-    omega (arith, more, now, before)
+    let whole = c.requires.whole in
+    let long = c.len.ensures in
+    omega (arith, fits, now, whole, long)
 
-pub overflow_sub-room-in-Ok : goal.overflow_sub-room-in-Ok
-overflow_sub-room-in-Ok g c =
-    let fits = cells_fit (g.A.Automaton.shape c.args.automaton.now) (g.A.Automaton.lists c.args.automaton.now) (g.A.Automaton.lists c.join.new.self) (value_of_join (g.A.Automaton.shape c.args.automaton.now) (g.A.Automaton.lists c.args.automaton.now) c.args.op.now c.args.left.now.id c.args.right.now.id) c.in-Ok.id (c.args.left.now.weight +ℤ c.args.right.now.weight) c.args.origin c.args.rows.now.items c.args.rows.now.items c.args.room.now c.args.room.now c.in-Ok.ensures.answer.0 c.requires.exact c.requires.within c.in-Ok.ensures.answer.1 in
-    let now = c.cells.ensures ∙ ap (λ (F : Formula). list_cells (parts F) (g.A.Automaton.lists c.join.new.self)) c.in-Ok.ensures.shape in
-    let before = c.cells-before.ensures in
-    omega (arith, fits, now, before)
-
-pub returns-in-Ok-clause-passes : goal.returns-in-Ok-clause-passes
-returns-in-Ok-clause-passes g c =
-    let now = c.cells.ensures ∙ ap (λ (F : Formula). list_cells (parts F) (g.A.Automaton.lists c.join.new.self)) c.in-Ok.ensures.shape in
-    let before = c.cells-before.ensures in
+pub returns-in-Some-clause-passes : goal.returns-in-Some-clause-passes
+returns-in-Some-clause-passes g c =
+    let F = g.A.Automaton.shape c.args.automaton.now in
+    let olds = g.A.Automaton.lists c.args.automaton.now in
+    let rows = c.args.rows.now.items in
+    let none : Row = record { id = 0; weight = pos 0; origin = Out } in
     let one : SFits w64 c.args.left.now.weight = search rules in
     let two : SFits w64 c.args.right.now.weight = search rules in
     let left = c.requires.left in
     let right = c.requires.right in
     let both : SFits w64 (c.args.left.now.weight +ℤ c.args.right.now.weight) = omega (arith, ints, left, right) in
     let weight = weight_is c.args.left.now.weight c.args.right.now.weight one two both in
-    one_passes (g.A.Automaton.shape c.args.automaton.now) (g.A.Automaton.lists c.args.automaton.now) (g.A.Automaton.lists c.join.new.self) (value_of_join (g.A.Automaton.shape c.args.automaton.now) (g.A.Automaton.lists c.args.automaton.now) c.args.op.now c.args.left.now.id c.args.right.now.id) c.in-Ok.id (c.args.left.now.weight +ℤ c.args.right.now.weight) c.args.origin c.args.rows.now.items c.add_row.new.rows.items c.args.room.now c.add_row.new.room c.in-Ok.ensures.answer.0 c.requires.exact c.requires.within c.in-Ok.ensures.answer.1
-    (c.cells.result - c.cells-before.result) (λ i. now i - before i) c.add_row.result
-    (subst (λ x. AddsRow (record { id = c.in-Ok.id; weight = x; origin = c.args.origin }) c.args.rows.now.items c.add_row.new.rows.items (c.args.room.now - (c.cells.result - c.cells-before.result)) c.add_row.new.room c.add_row.result)
-    weight c.add_row.ensures)
+    let place = subst (λ xs. IsPlaceIn xs c.in-Ok.id (Some c.in-Some.place)) c.deref.ensures.value c.in-Some.ensures in
+    let there = subst (λ i. i < length (root F olds)) (place.2 none) (fit_at (λ p. p.0 < length (root F olds)) rows c.in-Some.place none c.requires.within place.0) in
+    known_passes F olds (g.A.Automaton.lists c.join.new.self) (value_of_join F olds c.args.op.now c.args.left.now.id c.args.right.now.id) c.in-Ok.id (c.args.left.now.weight +ℤ c.args.right.now.weight) c.args.origin
+    rows c.replace_row.new.rows.items c.args.room.now c.in-Ok.ensures.answer.0 c.requires.exact c.requires.within c.in-Ok.ensures.answer.1 there c.replace_row.result
+    (subst (λ x. Puts (record { id = c.in-Ok.id; weight = x; origin = c.args.origin }) rows c.replace_row.new.rows.items c.replace_row.result) weight c.replace_row.ensures)
+
+pub returns-in-None-clause-passes : goal.returns-in-None-clause-passes
+returns-in-None-clause-passes g c =
+    let F = g.A.Automaton.shape c.args.automaton.now in
+    let olds = g.A.Automaton.lists c.args.automaton.now in
+    let mids = g.A.Automaton.lists c.join.new.self in
+    let v = value_of_join F olds c.args.op.now c.args.left.now.id c.args.right.now.id in
+    let w = c.args.left.now.weight +ℤ c.args.right.now.weight in
+    let rows = c.args.rows.now.items in
+    let now = c.cells.ensures ∙ ap (λ (G : Formula). list_cells (parts G) mids) c.in-Ok.ensures.shape in
+    let one : SFits w64 c.args.left.now.weight = search rules in
+    let two : SFits w64 c.args.right.now.weight = search rules in
+    let left = c.requires.left in
+    let right = c.requires.right in
+    let both : SFits w64 (c.args.left.now.weight +ℤ c.args.right.now.weight) = omega (arith, ints, left, right) in
+    let weight = weight_is c.args.left.now.weight c.args.right.now.weight one two both in
+    let more = added_cells F olds mids v c.in-Ok.id w c.args.origin rows rows c.args.room.now c.args.room.now c.in-Ok.ensures.answer.0 c.requires.exact c.requires.within c.in-Ok.ensures.answer.1 in
+    let whole = c.requires.whole in
+    let long = c.len.ensures in
+    let rest : c.args.whole - c.len.result - c.cells.result ≡ c.args.room.now - (list_cells (parts F) mids - list_cells (parts F) olds) = omega (arith, more, now, whole, long) in
+    one_passes F olds mids v c.in-Ok.id w c.args.origin rows c.add_new_row.new.rows.items c.args.room.now c.add_new_row.new.room c.in-Ok.ensures.answer.0 c.requires.exact c.requires.within c.in-Ok.ensures.answer.1
+    (list_cells (parts F) mids - list_cells (parts F) olds) refl c.add_new_row.result
+    (subst (λ r. AddsRow (record { id = c.in-Ok.id; weight = w; origin = c.args.origin }) rows c.add_new_row.new.rows.items r c.add_new_row.new.room c.add_new_row.result) rest
+    (subst (λ x. AddsRow (record { id = c.in-Ok.id; weight = x; origin = c.args.origin }) rows c.add_new_row.new.rows.items (c.args.whole - c.len.result - c.cells.result) c.add_new_row.new.room c.add_new_row.result)
+    weight c.add_new_row.ensures))
 
 pub returns-in-Err-clause-passes : goal.returns-in-Err-clause-passes
 returns-in-Err-clause-passes g c =

@@ -1,5 +1,6 @@
-use Rattle.std.proofs.Common.{◌≤◌, pos, [], slice_index_or, nat_abs, refl, sym, ◌∙◌, subst}
+use Rattle.std.proofs.Common.{◌≡◌, ◌≤◌, ◌+◌, pos, [], length, slice_index_or, nat_abs, refl, sym, ◌∙◌, subst}
 use Rattle.mm_logic.specs.Formula.{Formula}
+use Rattle.mm_logic.specs.Occurrence.{nodes as parts, list_cells}
 use Rattle.mm_logic.specs.JoinRule.{join_type}
 use Rattle.mm_logic.specs.Growth.{type_at}
 use Rattle.mm_states.specs.Calls.{IsOperand}
@@ -17,6 +18,11 @@ none = record { id = 0; weight = pos 0; origin = Out }
 
 pub loop-k-init : goal.loop-k-init
 loop-k-init g c = (refl, refl, refl, passed_none _ _ c.args.rows.now.items c.args.room.now c.requires.exact c.requires.within)
+
+pub add_pairs_with-requires-clause-whole : goal.add_pairs_with-requires-clause-whole
+add_pairs_with-requires-clause-whole g c =
+    subst (λ (G : Formula). c.args.whole ≡ c.loop-k.room + length c.loop-k.rows.items + list_cells (parts G) (g.A.Automaton.lists c.loop-k.automaton)) (sym c.loop-k.invariant.0)
+    (c.requires.whole ∙ sym c.loop-k.invariant.3.taken)
 
 pub add_pairs_with-requires-clause-left : goal.add_pairs_with-requires-clause-left
 add_pairs_with-requires-clause-left g c =

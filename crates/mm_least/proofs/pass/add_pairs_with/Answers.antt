@@ -1,6 +1,7 @@
-use Rattle.std.proofs.Common.{◌≤◌, ◌+ℤ◌, pos, [], ◌∷◌, slice_index_or, nat_abs, refl, sym, ◌∙◌, subst}
+use Rattle.std.proofs.Common.{◌≡◌, ◌≤◌, ◌+◌, ◌+ℤ◌, pos, [], ◌∷◌, length, slice_index_or, nat_abs, refl, sym, ◌∙◌, subst}
 use Rattle.mm_field.specs.declared.Field.{Field}
 use Rattle.mm_logic.specs.Formula.{Formula}
+use Rattle.mm_logic.specs.Occurrence.{nodes as parts, list_cells}
 use Rattle.mm_states.specs.Calls.{CanJoin, IsOperand, value_of_join}
 use Rattle.mm_nodes.specs.Demands.{IsExact}
 use Rattle.mm_least.specs.declared.row.Row.{Row}
@@ -15,6 +16,11 @@ none = record { id = 0; weight = pos 0; origin = Out }
 
 pub loop-k-init : goal.loop-k-init
 loop-k-init g c = (refl, refl, refl, passed_none _ _ c.args.rows.now.items c.args.room.now c.requires.exact c.requires.within)
+
+pub add_pair-requires-clause-whole : goal.add_pair-requires-clause-whole
+add_pair-requires-clause-whole g c =
+    subst (λ (G : Formula). c.args.whole ≡ c.loop-k.room + length c.loop-k.rows.items + list_cells (parts G) (g.A.Automaton.lists c.loop-k.automaton)) (sym c.loop-k.invariant.0)
+    (c.requires.whole ∙ sym c.loop-k.invariant.3.taken)
 
 pub add_pair-requires-clause-can : goal.add_pair-requires-clause-can
 add_pair-requires-clause-can g c =
