@@ -21,3 +21,10 @@ pub mod StepLineLemmas
 pub mod BuildStateLemmas
 pub mod ReadLemmas
 pub mod BuildOutputLemmas
+pub mod GivenLemmas
+pub mod OrderLemmas
+pub mod ClosedLemmas
+pub mod OrthogonalLemmas
+pub mod ChildRowLemmas
+pub mod NarrowLemmas
+pub mod DualLemmas

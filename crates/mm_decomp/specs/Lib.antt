@@ -14,3 +14,4 @@ pub mod Decompositions
 pub mod BuildStates
 pub mod BuildTexts
 pub mod BuildOutput
+pub mod Duals

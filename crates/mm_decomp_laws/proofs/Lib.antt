@@ -1,0 +1,9 @@
+pub mod IndependenceLemmas
+pub mod ExtendLemmas
+pub mod RankSumLemmas
+pub mod LeafBasisLemmas
+pub mod SpaceLemmas
+pub mod ConnectivityLemmas
+pub mod StandsForLemmas
+pub mod RowSpaceLemmas
+pub mod DualLawLemmas
