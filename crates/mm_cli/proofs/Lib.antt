@@ -1,3 +1,4 @@
 pub mod EndedLemmas
+pub mod OutputLemmas
 pub mod RunLemmas
 pub mod StepLemmas

@@ -1,3 +1,5 @@
 pub mod Words
 pub mod Runs
 pub mod Going
+pub mod Answers
+pub mod Owed
