@@ -31,7 +31,7 @@ pub record IsCut (f : Field) (k g : ℕ) (hs ms ho mo : List (List ℕ)) : Type 
       → vector_sum f (combination f g x ms) (combination f g o mo) ≡ zeros g → Solution f k hs ho x o
 
 -- vectors whose sum is zero are multiples of each other by -1
-opposite : (f : Field) (n : ℕ) (u v : List ℕ) → IsVector f n u → IsVector f n v → vector_sum f u v ≡ zeros n → multiple f (negative f 1) v ≡ u
+pub opposite : (f : Field) (n : ℕ) (u v : List ℕ) → IsVector f n u → IsVector f n v → vector_sum f u v ≡ zeros n → multiple f (negative f 1) v ≡ u
 opposite f n u v hu hv e =
     let w = multiple f (negative f 1) v in
     let hw = IsVector-multiple f n (negative f 1) v hv.len in

@@ -20,3 +20,4 @@ pub mod HeaderTextLemmas
 pub mod StepLineLemmas
 pub mod BuildStateLemmas
 pub mod ReadLemmas
+pub mod BuildOutputLemmas

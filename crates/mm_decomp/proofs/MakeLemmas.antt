@@ -59,11 +59,11 @@ ok_part P r x e h = subst (λ q. IfOk q P) e h
 
 -- ---- the names of the shapes
 
-names_in : List Shape → List (List ℕ)
+unfoldable pub names_in : List Shape → List (List ℕ)
 names_in [] = []
 names_in (shape ∷ shapes) = names_in shapes ++ names shape
 
-names_after : (shapes : List Shape) (xs : List Step) → FindTwo shapes xs → names_in (after_steps shapes xs) ≡ names_in shapes ++ leaf_names xs
+pub names_after : (shapes : List Shape) (xs : List Step) → FindTwo shapes xs → names_in (after_steps shapes xs) ≡ names_in shapes ++ leaf_names xs
 unfolding names names_in
 names_after shapes [] h = sym (append-nil (names_in shapes))
 names_after shapes (steps.Leaf name weight ∷ xs) h =

@@ -67,20 +67,20 @@ extended_most f g list (v ∷ vs) = go (is_in_span f g list v) (λ l. extended_m
 
 -- ---- coordinates keep rows independent
 
-basis_independent : (f : Field) (g : ℕ) (rows : List (List ℕ)) → IsReducedBasis f g rows → AreIndependent f g rows
+pub basis_independent : (f : Field) (g : ℕ) (rows : List (List ℕ)) → IsReducedBasis f g rows → AreIndependent f g rows
 basis_independent f g rows h =
     let b = reduced_basis_is f g rows h.each in
     reduced_independent f g rows b.leads
     (subst (λ (xs : List (List ℕ)). AreReduced f g xs b.leads) h.own (record { each = b.each; leads_are = b.echelon; clear = b.reduced }))
 
-coordinates_back : (f : Field) (g : ℕ) (list rows : List (List ℕ)) → AreVectors f g list → AreVectors f g rows → IsWithin f g rows list →
+pub coordinates_back : (f : Field) (g : ℕ) (list rows : List (List ℕ)) → AreVectors f g list → AreVectors f g rows → IsWithin f g rows list →
     map (times_matrix f g list) (map (coordinates f g list) rows) ≡ rows
 coordinates_back f g list [] hl hr w = refl
 coordinates_back f g list (v ∷ rows) hl hr w =
     ap₂ (λ x xs. x ∷ xs) (coordinates_combine f g list v hl (first_row f g v rows hr) (All-head (λ v. InSpan f g list v) v rows w))
     (coordinates_back f g list rows hl (other_rows f g v rows hr) (All-tail (λ v. InSpan f g list v) v rows w))
 
-coordinate_vectors : (f : Field) (g : ℕ) (list rows : List (List ℕ)) → AreVectors f (length list) (map (coordinates f g list) rows)
+pub coordinate_vectors : (f : Field) (g : ℕ) (list rows : List (List ℕ)) → AreVectors f (length list) (map (coordinates f g list) rows)
 coordinate_vectors f g list rows = λ i d l.
     let li : i < length rows = (let e = length-map rows (coordinates f g list) in omega arith) in
     subst (λ v. IsVector f (length list) v) (sym (get_or-map (coordinates f g list) rows i [] d li)) (IsVector-coordinates f g list (get_or rows i []))

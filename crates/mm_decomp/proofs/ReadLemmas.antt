@@ -30,7 +30,7 @@ use Rattle.mm_decomp.specs.declared.build_state.BuildState.{BuildState}
 use Rattle.mm_decomp.specs.declared.build_state.Stage.{Stage}
 use Rattle.mm_decomp.specs.declared.build_state.Stage.TheVariants as stage
 use Rattle.mm_decomp.specs.Shapes.{leaf_names}
-use Rattle.mm_decomp.specs.declared.build_text.BuildText.{BuildText}
+use Rattle.mm_decomp.specs.declared.decomposition.BuildText.{BuildText}
 use Rattle.mm_decomp.specs.declared.shape.Step.{Step}
 use Rattle.mm_decomp.proofs.ShapeLemmas.{leaf_names-append}
 

@@ -45,7 +45,7 @@ FindTwo-front shapes [] ys h = tt
 FindTwo-front shapes (steps.Leaf name weight ∷ xs) ys h = FindTwo-front (after_step shapes (steps.Leaf name weight)) xs ys h
 FindTwo-front shapes (steps.Join ∷ xs) ys h = (h.0, FindTwo-front (after_step shapes steps.Join) xs ys h.1)
 
-parts_at : (xs : List Step) (i : ℕ) (step d : Step) → i < length xs → get_or xs i d ≡ step → xs ≡ take i xs ++ step ∷ drop (suc i) xs
+pub parts_at : (xs : List Step) (i : ℕ) (step d : Step) → i < length xs → get_or xs i d ≡ step → xs ≡ take i xs ++ step ∷ drop (suc i) xs
 parts_at xs i step d l e = sym (take-append-drop i xs) ∙ ap (λ ys. take i xs ++ ys) (drop-cons xs i d l ∙ ap (λ s. s ∷ drop (suc i) xs) e)
 
 pub two_at : (xs : List Step) (i : ℕ) (d : Step) → i < length xs → get_or xs i d ≡ steps.Join → FindTwo [] xs → 2 ≤ length (after_steps [] (take i xs))

@@ -98,7 +98,7 @@ find_two (shapes.Shape.Join l r) before =
     (FindTwo-append (l ∷ before) (steps_of r) (steps.Join ∷ []) (find_two r (l ∷ before))
     (subst (λ ss. FindTwo ss (steps.Join ∷ [])) (sym (steps_make r (l ∷ before))) (omega arith, tt))))
 
-names_of_steps : (s : Shape) → shapes.leaf_names (steps_of s) ≡ names s
+pub names_of_steps : (s : Shape) → shapes.leaf_names (steps_of s) ≡ names s
 unfolding steps_of names
 names_of_steps (shapes.Shape.Leaf name weight) = refl
 names_of_steps (shapes.Shape.Join l r) =
@@ -108,7 +108,7 @@ names_of_steps (shapes.Shape.Join l r) =
 
 -- ---- the shape of a valid tree
 
-abbrev names_if : Option Shape → List (List ℕ)
+abbrev pub names_if : Option Shape → List (List ℕ)
 names_if None = []
 names_if (Some s) = names s
 
@@ -118,7 +118,7 @@ names_joined None right = refl
 names_joined (Some l) None = sym (append-nil (names l))
 names_joined (Some l) (Some r) = refl
 
-same_names : (T : Tree) → names_if (element_shape T) ≡ element_names T
+pub same_names : (T : Tree) → names_if (element_shape T) ≡ element_names T
 unfolding element_shape element_names names
 same_names (Elem name vec weight) = refl
 same_names (Void name t) = refl

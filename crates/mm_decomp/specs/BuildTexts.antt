@@ -16,7 +16,7 @@ use Rattle.mm_decomp.specs.Building.{AreLeaves, given_of}
 use Rattle.mm_decomp.specs.BuildStates.{given_in, step_lines}
 use Rattle.mm_decomp.specs.Decompositions.{Decomposition, same_names}
 use Rattle.mm_decomp.specs.declared.build_state.BuildState.{BuildState}
-use Rattle.mm_decomp.specs.declared.build_text.BuildText.{BuildText}
+use Rattle.mm_decomp.specs.declared.decomposition.BuildText.{BuildText}
 
 -- What was read, as the text gives it.
 abbrev pub decomposition : BuildText → Decomposition

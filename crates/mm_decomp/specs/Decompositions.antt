@@ -26,9 +26,9 @@ pub record Decomposition : Type 0 where
 abbrev pub no_line : Line → Result (Unit {0}) Refusal
 no_line r = Err (refusal.Syntax r.number)
 
-unfoldable pub nothing_after : Decomposition → Reader Decomposition
-nothing_after d [] = Read d []
-nothing_after d (r ∷ rs) = (line no_line >> λ rest. Read d rest) (r ∷ rs)
+unfoldable pub nothing_after : {A : Type 0} → A → Reader A
+nothing_after x [] = Read x []
+nothing_after x (r ∷ rs) = (line no_line >> λ rest. Read x rest) (r ∷ rs)
 
 -- The lines of a shape after these steps, and its `end`.
 unfoldable pub steps_part : Given → StepLines → Reader Decomposition

@@ -13,3 +13,4 @@ pub mod BuildLines
 pub mod Decompositions
 pub mod BuildStates
 pub mod BuildTexts
+pub mod BuildOutput

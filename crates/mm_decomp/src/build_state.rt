@@ -4,6 +4,7 @@ ghost use Rattle.std.specs.Prelude.{◌≡◌, ◌∷◌, [], List, IfOk, true, 
 ghost use Rattle.std.specs.List.{IsDistinct};
 ghost use Rattle.std.specs.Str.{bytes_eq};
 ghost use Rattle.mm_lines.specs.declared.line.Line.{Line as LineOf};
+ghost use Rattle.mm_header.specs.Header.{Parts};
 ghost use Rattle.mm_job_text.specs.Arguments.{begins};
 ghost use Rattle.mm_job_text.specs.Becoming.{Goes};
 ghost use Rattle.mm_decomp.specs.BuildLines.{is_shape_part};
@@ -301,8 +302,9 @@ impl BuildState {
 
 /// The refusal of a line after the `end`.
 #[tactic(auto, unfolding(crate::specs::Decompositions::nothing_after))]
-fn line_after_end(line: &Line) -> Refusal
-    ensures { (d : Decomposition) (rs : List LineOf) → nothing_after d (line.now ∷ rs) ≡ Refused result }
+pub(crate) fn line_after_end(line: &Line) -> Refusal
+    ensures build { (d : Decomposition) (rs : List LineOf) → nothing_after d (line.now ∷ rs) ≡ Refused result }
+    ensures tree { (p : Parts) (rs : List LineOf) → nothing_after p (line.now ∷ rs) ≡ Refused result }
 {
     too_long(line).unwrap_or(Refusal::Syntax(line.number))
 }

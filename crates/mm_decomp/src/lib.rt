@@ -7,9 +7,10 @@
 
 mod build;
 mod build_lines;
+mod build_output;
 mod build_state;
-mod build_text;
 mod columns;
+mod decomposition;
 mod form;
 mod operator;
 mod read;
@@ -20,7 +21,8 @@ mod tree_shape;
 mod write;
 
 pub use build::{DecompFault, build_tree};
-pub use build_text::{BuildText, LineNumbers};
+pub use build_output::build_text;
+pub use decomposition::{BuildText, LineNumbers};
 pub use read::read_build;
 pub use shape::{Shape, Step};
 pub use shape_builder::{ShapeBuilder, ShapeFault};

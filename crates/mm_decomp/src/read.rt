@@ -9,7 +9,7 @@ ghost use Rattle.mm_decomp.specs.Decompositions.{at_end, decomposition_of, read_
 ghost use Rattle.mm_decomp.specs.declared.build_state.Stage.TheVariants as stages;
 
 use crate::build_state::{BuildState, Stage};
-use crate::build_text::{BuildText, LineNumbers};
+use crate::decomposition::{BuildText, LineNumbers};
 use mm_base::{NoMemory, TextFault};
 use mm_field::Field;
 use mm_job_text::{Refusal, Stop, words};
@@ -26,7 +26,7 @@ fn used(bytes: &[u8]) -> &[u8]
 }
 
 /// The lines of a text.
-fn framed(alloc: Global, bytes: &[u8]) -> Result<Framer, NoMemory>
+pub(crate) fn framed(alloc: Global, bytes: &[u8]) -> Result<Framer, NoMemory>
     ensures { IfOk result (λ framer. left framer ≡ lines bytes.now) }
 {
     let mut framer = Framer::new(alloc);

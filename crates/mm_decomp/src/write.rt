@@ -42,7 +42,7 @@ pub fn write_header(
 }
 
 /// The lines of the format and of the field.
-fn append_field(alloc: Global, text: &mut Text, f: Field) -> Result<(), NoMemory>
+pub(crate) fn append_field(alloc: Global, text: &mut Text, f: Field) -> Result<(), NoMemory>
     ensures { OnOk result (text.new ≡ text.old ++ text_of_lines (codes "mso 1" ∷ field_text f ∷ [])) }
 {
     text.append(alloc, b"mso 1\nfield")?;

@@ -1,6 +1,6 @@
 use Rattle.std.proofs.Common.{arith}
 use Rattle.mm_decomp.proofs.ReadLemmas.{next_leaves}
-use Rattle.mm_decomp.proofs.build_text.leaves_of.Goals as goal
+use Rattle.mm_decomp.proofs.decomposition.leaves_of.Goals as goal
 
 pub loop-i-preserved : goal.loop-i-preserved
 loop-i-preserved c =

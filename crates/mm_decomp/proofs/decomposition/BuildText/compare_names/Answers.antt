@@ -1,5 +1,5 @@
 use Rattle.mm_decomp.proofs.ReadLemmas.{names_matched}
-use Rattle.mm_decomp.proofs.build_text.BuildText.compare_names.Goals as goal
+use Rattle.mm_decomp.proofs.decomposition.BuildText.compare_names.Goals as goal
 
 pub returns-in-None : goal.returns-in-None
 returns-in-None c =
