@@ -2,3 +2,4 @@ pub mod EndedLemmas
 pub mod OutputLemmas
 pub mod RunLemmas
 pub mod StepLemmas
+pub mod WholeLemmas

@@ -2,4 +2,5 @@ pub mod Words
 pub mod Runs
 pub mod Going
 pub mod Answers
+pub mod Whole
 pub mod Owed

@@ -4,9 +4,11 @@
 //! every other command writes one answer at its end.
 #![tactic(auto)]
 
+mod building;
 mod reading;
 mod sampling;
 mod tool;
+mod whole;
 mod words;
 mod writing;
 

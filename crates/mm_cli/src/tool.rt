@@ -5,6 +5,7 @@ ghost use Rattle.mm_base.specs.declared.status.Status.TheVariants as ends;
 ghost use Rattle.mm_cli.specs.Owed.{Owed, reads};
 ghost use Rattle.mm_cli.specs.Words.{asked};
 
+use crate::building::build;
 use crate::reading::run;
 use crate::sampling::sample;
 use crate::words::{Command, command_of};
@@ -20,6 +21,7 @@ use std::sync::ledger::Ledger;
 ///   counted a fault in this call, and then a front of the output was written: after `ReadFault` exactly what is settled of the bytes
 ///   that were taken.
 /// - `sample` answers a job that it makes, and writes how many lines that gave, the first and the last. It reads nothing.
+/// - `build` answers the decomposition in the source with the header of the tree that is built for it, or with the refusal of its text.
 /// - A command that is not built yet is refused, and words that ask for nothing are `Usage`; nothing is read then.
 ///
 /// `NoMemory` may come at any time, with a front of what is owed.
@@ -43,6 +45,7 @@ pub fn top<S: Source, K: Sink, L: Ledger>(
     match command_of(words) {
         Some(Command::Run(limit)) => run(alloc, limit, source, sink, steps),
         Some(Command::Sample(numbers)) => sample(alloc, numbers, sink, steps),
+        Some(Command::Build) => build(alloc, source, sink),
         Some(Command::NotBuilt) => write(b"refused not-built\n", Status::Refused, sink),
         None => write(b"refused usage\n", Status::Usage, sink),
     }

@@ -36,6 +36,8 @@ pub enum Command {
     Run(u64),
     /// `sample`, with its numbers: a job that is drawn from them is answered in short.
     Sample(SampleNumbers),
+    /// `build`: the tree for the decomposition in the source.
+    Build,
     /// A command of the table that is not built yet.
     NotBuilt,
 }
@@ -101,12 +103,10 @@ fn alone(word: &[u8]) -> Option<Command>
     if is_text(word, b"run") {
         return Some(Command::Run(MOST_LIMIT));
     }
-    not_built(
-        is_text(word, b"build")
-            || is_text(word, b"dual")
-            || is_text(word, b"prove")
-            || is_text(word, b"verify"),
-    )
+    if is_text(word, b"build") {
+        return Some(Command::Build);
+    }
+    not_built(is_text(word, b"dual") || is_text(word, b"prove") || is_text(word, b"verify"))
 }
 
 /// `run --limit=N`.
