@@ -47,7 +47,11 @@ fn refuse<K: Sink>(alloc: Global, words: &Text, sink: &mut K) -> Status
 }
 
 /// Writes the text that was made, or the words of its refusal.
-pub(crate) fn write_made<K: Sink>(alloc: Global, text: &Result<Text, TextFault>, sink: &mut K) -> Status
+pub(crate) fn write_made<K: Sink>(
+    alloc: Global,
+    text: &Result<Text, TextFault>,
+    sink: &mut K,
+) -> Status
     ensures answer { (output : Result (List ℕ) (List ℕ)) → IsOutput text.now output → Writes (made output) (K.held sink.old) (K.held sink.new) result }
     ensures read_fault { result ≡ ends.ReadFault → ⊥ }
     ensures write_fault { result ≡ ends.WriteFault → Rose (K.faults sink.old) (K.faults sink.new) }
@@ -58,4 +62,3 @@ pub(crate) fn write_made<K: Sink>(alloc: Global, text: &Result<Text, TextFault>,
         Err(TextFault::NoMemory) => Status::NoMemory,
     }
 }
-

@@ -47,11 +47,7 @@ const BUILDS: [(&str, &str, u8); 18] = [
         "mso 1\nfield 3\nelements a b\nop j1 0 0 0 0 . .\ntree\nelem b - 1\nelem a - -1\njoin j1\nend\n",
         0,
     ),
-    (
-        "",
-        "refused unfinished\n",
-        1,
-    ),
+    ("", "refused unfinished\n", 1),
     // a line after the end
     (
         "mso-build 1\nfield 2\nelements a b c\nrow 101\nrow 011\nshape\nleaf a 5\nleaf b 5\njoin\nleaf c 5\njoin\nend\ndecide ind(*)\n",
@@ -115,11 +111,7 @@ const BUILDS: [(&str, &str, u8); 18] = [
         1,
     ),
     // no leaves
-    (
-        "mso-build 1\nfield 2\nshape\nend\n",
-        "refused tree 4\n",
-        1,
-    ),
+    ("mso-build 1\nfield 2\nshape\nend\n", "refused tree 4\n", 1),
 ];
 
 #[test]
@@ -127,7 +119,14 @@ fn decompositions_give_their_headers(rt: HostRuntime) -> Result<(), Fail> {
     let alloc = rt.alloc();
     for (text, output, status) in BUILDS {
         for piece in [4096usize, 1, 7] {
-            let same = gives(alloc, "build", text.as_bytes(), piece.max(1), output, status)?;
+            let same = gives(
+                alloc,
+                "build",
+                text.as_bytes(),
+                piece.max(1),
+                output,
+                status,
+            )?;
             assert!(rt; same, "{text} in pieces of {piece}");
         }
     }
