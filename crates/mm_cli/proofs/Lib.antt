@@ -1,3 +1,5 @@
 pub mod EndedLemmas
+pub mod OutputLemmas
 pub mod RunLemmas
 pub mod StepLemmas
+pub mod WholeLemmas
