@@ -3,3 +3,4 @@ pub mod OutputLemmas
 pub mod RunLemmas
 pub mod StepLemmas
 pub mod WholeLemmas
+pub mod WriteLemmas

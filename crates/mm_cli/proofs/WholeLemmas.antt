@@ -15,6 +15,7 @@ use Rattle.mm_cli.specs.Answers.{Answer, Writes, build, made}
 use Rattle.mm_cli.specs.Runs.{IsCut, IsEnd}
 use Rattle.mm_cli.specs.Whole.{AnswersText, TookAll}
 use Rattle.mm_cli.proofs.RunLemmas.{end_not_cut, still}
+use Rattle.mm_cli.proofs.WriteLemmas.{ends_or_cut, own_status}
 
 -- Nothing that comes after the first byte that is too many matters.
 abbrev pub IsCutOff : (List ℕ → Answer) → Type 0
@@ -47,21 +48,6 @@ answer_of_taken answer h all taken rest e (inr z) = ap answer e ∙ h taken rest
 pub made_ends : (output : Result (List ℕ) (List ℕ)) → IsEnd (made output).status
 made_ends (Ok text) = inl refl
 made_ends (Err words) = inr (inl refl)
-
--- the status of what was written, where the run came to its end
-own_status : (answer : Answer) (h k : Option (List ℕ)) (s : Status) → Writes answer h k s → IsEnd s → s ≡ answer.status
-own_status answer h k s w e = elim w.ends [
-  | inl own ↦ own
-  | inr (inl fault) ↦ absurd (end_not_cut s e (inr (inl fault)))
-  | inr (inr memory) ↦ absurd (end_not_cut s e (inr (inr memory)))
-]
-
-ends_or_cut : (answer : Answer) (h k : Option (List ℕ)) (s : Status) → IsEnd answer.status → Writes answer h k s → IsEnd s ⊎ IsCut s
-ends_or_cut answer h k s end w = elim w.ends [
-  | inl own ↦ inl (subst IsEnd (sym own) end)
-  | inr (inl fault) ↦ inr (inr (inl fault))
-  | inr (inr memory) ↦ inr (inr (inr memory))
-]
 
 -- All was read, and the answer to it was written, maybe not to its end.
 pub text_answered : (answer : List ℕ → Answer) → IsCutOff answer → (a b h k : Option (List ℕ)) (text : List ℕ) (s : Status)
