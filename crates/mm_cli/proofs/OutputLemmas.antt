@@ -57,4 +57,5 @@ lines_end bytes e = subst AreLines (sym e.whole)
 pub output_is_lines : (text : List ℕ) (limit : ℕ) → AreLines (output text limit)
 output_is_lines text limit =
     let some = some_lines text limit in
-    lines_end (output text limit) (subst (λ (ls : List OutputLine). EndsLine (printed_all ls)) (sym some.whole) (printed_all_ends some.first some.rest))
+    lines_end (output text limit)
+    (subst (λ (ls : List OutputLine). EndsLine (printed_all ls)) (sym some.whole) (printed_all_ends some.first some.rest))

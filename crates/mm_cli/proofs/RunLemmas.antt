@@ -299,15 +299,3 @@ pub unfinished : (limit : ℕ) (a b h k m : Option (List ℕ)) (job : JobValue) 
 unfinished limit a b h k m job e at grew =
     ran_unfinished limit a b h k m job.text e at.far at.stop
     (subst (λ n. GrewByFront k m (settled_output job.text n) (output job.text n)) at.same grew)
-
--- ---- memory in place of devices
-
--- A run from and to memory that did not end by a fault or for want of memory has answered its text.
-pub answered_surely : (limit : ℕ) (text : List ℕ) (left : Option (List ℕ)) (out : List ℕ) (s : Status) → Ran limit (Some text) left (Some []) (Some out) s
-    → (s ≡ ends.ReadFault → ⊥) → (s ≡ ends.WriteFault → ⊥) → (s ≡ ends.NoMemory → ⊥) → (out ≡ output text limit) × (s ≡ end_of text limit)
-answered_surely limit text left out s ran read write memory = elim ran.ends [
-  | inl e ↦ let answers = ran.answers e in (answers.grew, answers.ended)
-  | inr (inl e) ↦ absurd (read e)
-  | inr (inr (inl e)) ↦ absurd (write e)
-  | inr (inr (inr e)) ↦ absurd (memory e)
-]

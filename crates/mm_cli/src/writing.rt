@@ -52,7 +52,8 @@ pub(crate) fn write_made<K: Sink>(
     text: &Result<Text, TextFault>,
     sink: &mut K,
 ) -> Status
-    ensures answer { (output : Result (List ℕ) (List ℕ)) → IsOutput text.now output → Writes (made output) (K.held sink.old) (K.held sink.new) result }
+    ensures answer { (output : Result (List ℕ) (List ℕ)) → IsOutput text.now output
+        → Writes (made output) (K.held sink.old) (K.held sink.new) result }
     ensures read_fault { result ≡ ends.ReadFault → ⊥ }
     ensures write_fault { result ≡ ends.WriteFault → Rose (K.faults sink.old) (K.faults sink.new) }
 {
