@@ -12,18 +12,21 @@ use Rattle.mm_job_text.specs.Words.{words}
 use Rattle.mm_sample.specs.Summary.{AreLines}
 
 -- There is at least one.
-record Some_ (xs : List OutputLine) : Type 0 where
+record AtLeastOne (xs : List OutputLine) : Type 0 where
   first : OutputLine
   rest : List OutputLine
   whole : xs ≡ first ∷ rest
 
-some_after_header : (over : Bool) (reading : Reading Session) → Some_ (lines_after_header (if over then Over else Ended) reading)
-some_after_header over (Read s rest) = record { whole = refl }
-some_after_header over (Refused why) = record { whole = refl }
-some_after_header true Short = record { whole = refl }
-some_after_header false Short = record { whole = refl }
+at_least_one : (first : OutputLine) (rest : List OutputLine) → AtLeastOne (first ∷ rest)
+at_least_one first rest = record { first = first; rest = rest; whole = refl }
 
-some_lines : (text : List ℕ) (limit : ℕ) → Some_ (output_lines text limit)
+some_after_header : (over : Bool) (reading : Reading Session) → AtLeastOne (lines_after_header (if over then Over else Ended) reading)
+some_after_header over (Read s rest) = at_least_one _ _
+some_after_header over (Refused why) = at_least_one _ _
+some_after_header true Short = at_least_one _ _
+some_after_header false Short = at_least_one _ _
+
+some_lines : (text : List ℕ) (limit : ℕ) → AtLeastOne (output_lines text limit)
 unfolding output_lines written_lines
 some_lines text limit = some_after_header (is_over text) (header limit (lines text))
 
