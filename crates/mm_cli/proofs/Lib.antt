@@ -1,3 +1,6 @@
 pub mod EndedLemmas
+pub mod OutputLemmas
 pub mod RunLemmas
 pub mod StepLemmas
+pub mod WholeLemmas
+pub mod WriteLemmas

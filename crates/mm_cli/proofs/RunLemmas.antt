@@ -156,7 +156,7 @@ apart : (b : Bool) → b ≡ true → b ≡ false → ⊥
 apart true p q = cc
 apart false p q = cc
 
-end_not_cut : (s : Status) → IsEnd s → IsCut s → ⊥
+pub end_not_cut : (s : Status) → IsEnd s → IsCut s → ⊥
 end_not_cut s e c = apart (is_end s) (end_is s e) (cut_is s c)
 
 -- It came to the end of the job.
@@ -263,7 +263,7 @@ ran_unfinished limit a b h k m text e far stop grew =
 
 -- ---- the beginning
 
-still : (h : Option (List ℕ)) → Appends h h []
+pub still : (h : Option (List ℕ)) → Appends h h []
 still None = tt
 still (Some xs) = sym (append-nil xs)
 

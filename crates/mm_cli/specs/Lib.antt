@@ -1,3 +1,6 @@
 pub mod Words
 pub mod Runs
 pub mod Going
+pub mod Answers
+pub mod Whole
+pub mod Owed

@@ -1,5 +1,5 @@
 -- What a run of a job owes to its source and its sink.
-use Rattle.std.specs.Prelude.{◌≡◌, ◌≤◌, ◌⊎◌, ℕ, ◌+◌, true, List, ◌++◌, length, codes, IfSome}
+use Rattle.std.specs.Prelude.{◌≡◌, ◌≤◌, ◌⊎◌, ℕ, ◌+◌, true, List, ◌++◌, length, IfSome}
 use Rattle.std.specs.declared.option.Option.{Option}
 use Rattle.std.specs.Io.KnownBytes.{Appends, Consumes, IsAtEnd}
 use Rattle.mm_base.specs.Causes.{GrowsByFront}
@@ -64,17 +64,3 @@ pub record Ran (limit : ℕ) (left left_new held held_new : Option (List ℕ)) (
   pub stops : status ≡ ReadFault → Stops limit left left_new held held_new
   pub front : IsCut status → WritesFront limit left held held_new
   pub streams : IsCut status → Streams limit left left_new held held_new
-
--- The line that refuses words which ask for nothing.
-abbrev pub usage_line : List ℕ
-usage_line = codes "refused usage\n"
-
--- The line of a command that is not built yet.
-abbrev pub not_built_line : List ℕ
-not_built_line = codes "refused not-built\n"
-
--- One line was written, and the status is the one that goes with it, unless the write was cut short.
-pub record WritesLine (line : List ℕ) (whole : Status) (held held_new : Option (List ℕ)) (status : Status) : Type 0 where
-  pub ends : (status ≡ whole) ⊎ (status ≡ WriteFault) ⊎ (status ≡ NoMemory)
-  pub grew : status ≡ whole → Appends held held_new line
-  pub front : IsCut status → GrowsByFront held held_new line

@@ -1,5 +1,5 @@
 -- The words of the command line, and what they ask for.
-use Rattle.std.specs.Prelude.{ℕ, ◌≤◌, Bool, false, ◌&&◌, ◌||◌, ◌==◌, nat_le, List, [], ◌∷◌, length, take, drop, codes, slice_index_or, map, String, string_bytes, Option, Some, None, is_some, if◌then◌else◌}
+use Rattle.std.specs.Prelude.{ℕ, ◌≤◌, Bool, false, ◌&&◌, ◌||◌, ◌==◌, nat_le, List, [], ◌∷◌, length, take, drop, codes, slice_index_or, map, String, string_bytes, Option, Some, None, if◌then◌else◌}
 use Rattle.std.specs.declared.alloc.Global.{Global}
 use Rattle.std.specs.List.{list_all}
 use Rattle.std.specs.Str.{bytes_eq}
@@ -7,34 +7,61 @@ use Rattle.mm_field.specs.declared.Field.{Field}
 use Rattle.mm_lines.specs.Numbers.{number_of}
 use Rattle.mm_space.specs.DigitTexts.{vectors_of}
 use Rattle.mm_job_text.specs.HeaderLines.{field_of}
-use Rattle.mm_cli.specs.declared.words.TheConstants.{MOST_LIMIT}
+use Rattle.mm_cli.specs.declared.words.TheConstants.{MOST_LIMIT, MOST_ELEMENTS, MOST_SEED}
 use Rattle.mm_cli.specs.declared.words.Command.{Command}
-use Rattle.mm_cli.specs.declared.words.Command.TheVariants.{Run, NotBuilt}
+use Rattle.mm_cli.specs.declared.words.Command.TheVariants.{Run, Sample, Build, NotBuilt}
+use Rattle.mm_cli.specs.declared.words.SampleNumbers.{SampleNumbers}
 
 -- The greatest limit on sizes, which holds where none is given.
 abbrev pub most_limit : ℕ
 most_limit = MOST_LIMIT
 
+-- The most elements and the greatest seed of a sample.
+abbrev pub most_elements : ℕ
+most_elements = MOST_ELEMENTS
+
+abbrev pub most_seed : ℕ
+most_seed = MOST_SEED
+
 abbrev pub within : ℕ → ℕ → Option ℕ → Option ℕ
 within least most None = None
 within least most (Some n) = if nat_le least n && nat_le n most then Some n else None
+
+abbrev pub field_of_order : Option ℕ → Option Field
+field_of_order None = None
+field_of_order (Some q) = field_of q
 
 -- The number that 1 to 10 digits spell, where it is in these bounds.
 abbrev pub number_within : ℕ → ℕ → List ℕ → Option ℕ
 number_within least most word = within least most (number_of 10 word)
 
-abbrev pub is_number_within : ℕ → ℕ → List ℕ → Bool
-is_number_within least most word = is_some (number_within least most word)
+-- The field whose order a word spells.
+abbrev pub field_within : List ℕ → Option Field
+field_within word = field_of_order (number_within 2 5 word)
 
 -- `run` with a limit, where there is one
 abbrev pub limited : Option ℕ → Option Command
 limited None = None
 limited (Some limit) = Some (Run limit)
 
--- A limit that is given is from 1 to the greatest.
-abbrev pub IsWithinLimit : Command → Type 0
-IsWithinLimit (Run limit) = (1 ≤ limit) × (limit ≤ most_limit)
-IsWithinLimit NotBuilt = Unit {0}
+-- `sample` with its numbers, where all are there
+abbrev pub sampled : Option Field → (elements seed : Option ℕ) → Option Command
+sampled (Some field) (Some elements) (Some seed) = Some (Sample (record { field = field; elements = elements; seed = seed }))
+sampled field elements seed = None
+
+-- A sample has 2 elements at least, and its seed is not 0.
+pub record AreWithinBounds (s : SampleNumbers) : Type 0 where
+  pub some : 2 ≤ s.elements
+  pub few : s.elements ≤ most_elements
+  pub least : 1 ≤ s.seed
+  pub greatest : s.seed ≤ most_seed
+
+-- A limit that is given is from 1 to the greatest, and so are the numbers of a sample.
+abbrev pub IsWithinBounds : Command → Type 0
+IsWithinBounds (Run limit) = (1 ≤ limit) × (limit ≤ most_limit)
+IsWithinBounds (Sample s) = AreWithinBounds s
+IsWithinBounds Build = Unit {0}
+IsWithinBounds NotBuilt = Unit {0}
 
 -- a command that is in the table and is not built yet
 abbrev pub not_built : Bool → Option Command
@@ -44,7 +71,8 @@ not_built b = if b then Some NotBuilt else None
 abbrev pub alone : List ℕ → Option Command
 alone word =
     if bytes_eq word (codes "run") then Some (Run most_limit)
-    else not_built (bytes_eq word (codes "build") || bytes_eq word (codes "dual") || bytes_eq word (codes "prove") || bytes_eq word (codes "verify"))
+    else if bytes_eq word (codes "build") then Some Build
+    else not_built (bytes_eq word (codes "dual") || bytes_eq word (codes "prove") || bytes_eq word (codes "verify"))
 
 -- `run --limit=N`
 abbrev pub with_joined : List ℕ → List ℕ → Option Command
@@ -69,20 +97,17 @@ abbrev pub is_matrix_over : Option Field → List ℕ → Bool
 is_matrix_over None rows = false
 is_matrix_over (Some f) rows = is_some_small_matrix (vectors_of f rows)
 
-abbrev pub is_matrix_of_order : Option ℕ → List ℕ → Bool
-is_matrix_of_order None rows = false
-is_matrix_of_order (Some q) rows = is_matrix_over (field_of q) rows
-
 -- `run --limit N` or `minor Q GEN`
 abbrev pub with_two : List ℕ → List ℕ → List ℕ → Option Command
 with_two word first second =
     if bytes_eq word (codes "run") && bytes_eq first (codes "--limit") then limited (number_within 1 most_limit second)
-    else not_built (bytes_eq word (codes "minor") && is_matrix_of_order (number_within 2 5 first) second)
+    else not_built (bytes_eq word (codes "minor") && is_matrix_over (field_within first) second)
 
 -- `sample Q N SEED`
 abbrev pub with_three : List ℕ → List ℕ → List ℕ → List ℕ → Option Command
 with_three word q n seed =
-    not_built (bytes_eq word (codes "sample") && is_number_within 2 5 q && is_number_within 2 200 n && is_number_within 1 2147483646 seed)
+    if bytes_eq word (codes "sample")
+    then sampled (field_within q) (number_within 2 most_elements n) (number_within 1 most_seed seed) else None
 
 -- The command that some words ask for: those of no row of the table ask for nothing.
 unfoldable pub command_of : List (List ℕ) → Option Command

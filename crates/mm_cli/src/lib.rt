@@ -1,9 +1,16 @@
-//! The top call of the tool: the words of the command line, and the loop that reads a job and writes its answers.
+//! The top call of the tool: the words of the command line, and the commands that they ask for.
+//!
+//! Each command is one function with one definition of what it answers (`specs/Answers`): a job is answered while it is read, and
+//! every other command writes one answer at its end.
 #![tactic(auto)]
 
+mod building;
 mod reading;
+mod sampling;
 mod tool;
+mod whole;
 mod words;
+mod writing;
 
 pub use tool::top;
-pub use words::{Command, command_of};
+pub use words::{Command, SampleNumbers, command_of};

@@ -12,11 +12,11 @@ use mm_lines::MOST_BYTES;
 use std::alloc::Global;
 use std::sync::ledger::Ledger;
 
-/// The bytes that are used of a job, and one more: where it comes, the job is too long.
-const MOST_TAKEN: usize = MOST_BYTES + 1;
+/// The bytes that are used of a text, and one more: where it comes, the text is too long.
+pub(crate) const MOST_TAKEN: usize = MOST_BYTES + 1;
 
 /// How many bytes one read asks for at most.
-const PIECE: usize = 8192;
+pub(crate) const PIECE: usize = 8192;
 
 /// How a run ends by a fault of its job.
 fn cut(fault: JobFault) -> Status

@@ -2,7 +2,7 @@
 ghost use Rattle.std.specs.Prelude.{◌≡◌, ◌≤◌, ◌==◌, length, map, string_bytes, IfSome};
 ghost use Rattle.std.specs.List.{list_all};
 ghost use Rattle.mm_lines.specs.Numbers.{number_of};
-ghost use Rattle.mm_cli.specs.Words.{IsWithinLimit, alone, command_of, is_matrix_of_order, is_small_matrix, limited, most_limit, not_built, number_within, with_joined, with_three, with_two};
+ghost use Rattle.mm_cli.specs.Words.{IsWithinBounds, alone, command_of, field_within, is_matrix_over, is_small_matrix, limited, most_elements, most_limit, most_seed, not_built, number_within, sampled, with_joined, with_three, with_two};
 
 use mm_field::Field;
 use mm_job_text::is_text;
@@ -10,13 +10,34 @@ use mm_lines::read_i64;
 use mm_space::Gen;
 
 /// The greatest limit on sizes, which holds where none is given.
-const MOST_LIMIT: u64 = 4_194_304;
+pub(crate) const MOST_LIMIT: u64 = 4_194_304;
+
+/// The most elements of a sample.
+const MOST_ELEMENTS: u64 = 200;
+
+/// The greatest seed of a sample.
+const MOST_SEED: u64 = 2_147_483_646;
+
+/// The numbers of a sample.
+#[derive(Clone, Copy, Debug, PartialEq, Eq)]
+pub struct SampleNumbers {
+    /// The field of its digits.
+    pub field: Field,
+    /// How many elements it has, 2 to 200.
+    pub elements: u32,
+    /// The seed that it is drawn from, 1 to 2147483646.
+    pub seed: u32,
+}
 
 /// What the words of the command line ask for.
 #[derive(Clone, Copy, Debug, PartialEq, Eq)]
 pub enum Command {
     /// `run`, with the limit on sizes: the job in the source is answered.
     Run(u64),
+    /// `sample`, with its numbers: a job that is drawn from them is answered in short.
+    Sample(SampleNumbers),
+    /// `build`: the tree for the decomposition in the source.
+    Build,
     /// A command of the table that is not built yet.
     NotBuilt,
 }
@@ -54,7 +75,7 @@ fn limited(limit: Option<u64>) -> Option<Command>
     requires least { IfSome limit (λ n. 1 ≤ n) }
     requires most { IfSome limit (λ n. n ≤ most_limit) }
     ensures command { result ≡ limited limit }
-    ensures limit { IfSome result IsWithinLimit }
+    ensures bounds { IfSome result IsWithinBounds }
 {
     match limit {
         Some(limit) => Some(Command::Run(limit)),
@@ -65,7 +86,7 @@ fn limited(limit: Option<u64>) -> Option<Command>
 /// A command of the table that is not built yet.
 fn not_built(is_command: bool) -> Option<Command>
     ensures command { result ≡ not_built is_command }
-    ensures limit { IfSome result IsWithinLimit }
+    ensures bounds { IfSome result IsWithinBounds }
 {
     if is_command {
         Some(Command::NotBuilt)
@@ -77,23 +98,21 @@ fn not_built(is_command: bool) -> Option<Command>
 /// `run`, or a command without further words.
 fn alone(word: &[u8]) -> Option<Command>
     ensures command { result ≡ alone word.now }
-    ensures limit { IfSome result IsWithinLimit }
+    ensures bounds { IfSome result IsWithinBounds }
 {
     if is_text(word, b"run") {
         return Some(Command::Run(MOST_LIMIT));
     }
-    not_built(
-        is_text(word, b"build")
-            || is_text(word, b"dual")
-            || is_text(word, b"prove")
-            || is_text(word, b"verify"),
-    )
+    if is_text(word, b"build") {
+        return Some(Command::Build);
+    }
+    not_built(is_text(word, b"dual") || is_text(word, b"prove") || is_text(word, b"verify"))
 }
 
 /// `run --limit=N`.
 fn with_joined(word: &[u8], joined: &[u8]) -> Option<Command>
     ensures command { result ≡ with_joined word.now joined.now }
-    ensures limit { IfSome result IsWithinLimit }
+    ensures bounds { IfSome result IsWithinBounds }
 {
     if !is_text(word, b"run") || joined.len() < 8 || !is_text(&joined[..8], b"--limit=") {
         return None;
@@ -124,15 +143,21 @@ fn is_small_matrix(rows: &Gen) -> bool
     1 <= columns && columns <= 5 && have_length(rows, columns)
 }
 
-/// Whether a word shows the rows of a matrix of 1 to 5 columns over the field of q elements.
-fn is_matrix_of_order(q: Option<u64>, rows: &[u8]) -> bool
-    requires { IfSome q (λ n. n ≤ 5) }
-    ensures { result ≡ is_matrix_of_order q rows.now }
+/// The field whose order a word spells.
+fn field_within(word: &[u8]) -> Option<Field>
+    ensures { result ≡ field_within word.now }
 {
-    let Some(q) = q else {
-        return false;
-    };
-    let Some(f) = Field::of(q as u8) else {
+    match number_within(2, 5, word) {
+        Some(q) => Field::of(q as u8),
+        None => None,
+    }
+}
+
+/// Whether a word shows the rows of a matrix of 1 to 5 columns over a field.
+fn is_matrix_over(field: Option<Field>, rows: &[u8]) -> bool
+    ensures { result ≡ is_matrix_over field rows.now }
+{
+    let Some(f) = field else {
         return false;
     };
     match Gen::read(f, rows) {
@@ -144,24 +169,51 @@ fn is_matrix_of_order(q: Option<u64>, rows: &[u8]) -> bool
 /// `run --limit N` or `minor Q GEN`.
 fn with_two(word: &[u8], first: &[u8], second: &[u8]) -> Option<Command>
     ensures command { result ≡ with_two word.now first.now second.now }
-    ensures limit { IfSome result IsWithinLimit }
+    ensures bounds { IfSome result IsWithinBounds }
 {
     if is_text(word, b"run") && is_text(first, b"--limit") {
         return limited(number_within(1, MOST_LIMIT, second));
     }
-    not_built(is_text(word, b"minor") && is_matrix_of_order(number_within(2, 5, first), second))
+    not_built(is_text(word, b"minor") && is_matrix_over(field_within(first), second))
+}
+
+/// `sample` with its numbers, where all are there.
+fn sampled(field: Option<Field>, elements: Option<u64>, seed: Option<u64>) -> Option<Command>
+    requires some { IfSome elements (λ n. 2 ≤ n) }
+    requires few { IfSome elements (λ n. n ≤ most_elements) }
+    requires least { IfSome seed (λ n. 1 ≤ n) }
+    requires greatest { IfSome seed (λ n. n ≤ most_seed) }
+    ensures command { result ≡ sampled field elements seed }
+    ensures bounds { IfSome result IsWithinBounds }
+{
+    let Some(field) = field else {
+        return None;
+    };
+    let Some(elements) = elements else {
+        return None;
+    };
+    let Some(seed) = seed else {
+        return None;
+    };
+    Some(Command::Sample(SampleNumbers {
+        field,
+        elements: elements as u32,
+        seed: seed as u32,
+    }))
 }
 
 /// `sample Q N SEED`.
 fn with_three(word: &[u8], q: &[u8], n: &[u8], seed: &[u8]) -> Option<Command>
     ensures command { result ≡ with_three word.now q.now n.now seed.now }
-    ensures limit { IfSome result IsWithinLimit }
+    ensures bounds { IfSome result IsWithinBounds }
 {
-    not_built(
-        is_text(word, b"sample")
-            && number_within(2, 5, q).is_some()
-            && number_within(2, 200, n).is_some()
-            && number_within(1, 2_147_483_646, seed).is_some(),
+    if !is_text(word, b"sample") {
+        return None;
+    }
+    sampled(
+        field_within(q),
+        number_within(2, MOST_ELEMENTS, n),
+        number_within(1, MOST_SEED, seed),
     )
 }
 
@@ -169,7 +221,7 @@ fn with_three(word: &[u8], q: &[u8], n: &[u8], seed: &[u8]) -> Option<Command>
 #[tactic(auto, unfolding(crate::specs::Words::command_of))]
 pub fn command_of(words: &[String]) -> Option<Command>
     ensures command { result ≡ command_of (map string_bytes words.now) }
-    ensures limit { IfSome result IsWithinLimit }
+    ensures bounds { IfSome result IsWithinBounds }
 {
     match words {
         [word] => alone(word.as_bytes()),

@@ -186,7 +186,7 @@ fn cut_texts_give_their_answers(rt: HostRuntime) -> Result<(), Fail> {
 }
 
 /// Words, and whether they are those of a command that is not built yet; else they ask for nothing.
-const WORDS: [(&str, bool); 18] = [
+const WORDS: [(&str, bool); 16] = [
     ("", false),
     ("run --limit 0", false),
     ("run --limit 4194305", false),
@@ -199,11 +199,9 @@ const WORDS: [(&str, bool); 18] = [
     ("minor 2 111111", false),
     ("minor 2 .", false),
     ("minor 02 10/1", false),
-    ("build", true),
     ("dual", true),
     ("prove", true),
     ("verify", true),
-    ("sample 2 200 7", true),
     ("minor 02 10/01", true),
 ];
 
