@@ -31,7 +31,7 @@ ghost use Rattle.mm_tree.specs.ValidTree.{IsValidTree, most_weight};
 
 use crate::edit::{Above, NewWeight};
 use crate::output_line::{OutputLine, says};
-use mm_base::{NameList, NoMemory, Steps, Text};
+use mm_base::{Name, NameList, NoMemory, Steps, Text};
 use mm_edit::{Answer, EditFault, Query, Session, StartFault};
 use mm_field::Field;
 use mm_formula::Scoped;
@@ -56,13 +56,20 @@ pub struct Editor {
     pub session: Session<Machine>,
 }
 
+/// Appends a name after a blank.
+fn append_name(alloc: Global, text: &mut Text, name: &Name) -> Result<(), NoMemory>
+    ensures { OnOk result (text.new ≡ text.old ++ codes " " ++ name.now) }
+{
+    text.append(alloc, b" ")?;
+    text.append(alloc, name.bytes())
+}
+
 /// Appends the names of a set, each after a blank.
 fn append_names(alloc: Global, text: &mut Text, names: &NameList) -> Result<(), NoMemory>
     ensures { OnOk result (text.new ≡ text.old ++ flat_map (λ name. codes " " ++ name) names.now) }
 {
     for i in 0..names.len() {
-        text.append(alloc, b" ")?;
-        text.append(alloc, names.at(i).bytes())?;
+        append_name(alloc, text, &names.at(i))?;
     }
     Ok(())
 }
@@ -152,9 +159,7 @@ pub fn reweigh<L: Ledger>(
         (another_weight (session_of editor.old).tree new.now.name new.now.weight)) }
     ensures steps { SpendsEdit editor.old (another_weight (session_of editor.old).tree new.now.name new.now.weight) steps.old steps.new }
 {
-    let done = editor
-        .session
-        .weight(alloc, &new.name, new.weight, steps);
+    let done = editor.session.weight(alloc, &new.name, new.weight, steps);
     reply(alloc, editor, line.number, done)
 }
 

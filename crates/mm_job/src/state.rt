@@ -11,8 +11,8 @@ ghost use Rattle.mm_header.specs.declared.state.HeaderState.TheVariants as heade
 ghost use Rattle.mm_job.specs.declared.stage.Stage.TheVariants as stages;
 
 use crate::block::Block;
-use crate::output_line::OutputLine;
 use crate::items::take_item;
+use crate::output_line::OutputLine;
 use crate::stage::{LineStep, Stage, take_first_line};
 use mm_base::{NoMemory, Status, Steps};
 use mm_header::HeaderState;

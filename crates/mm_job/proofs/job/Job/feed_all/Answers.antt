@@ -51,11 +51,9 @@ pub returns-in_err-take_piece-clause-steps : goal.returns-in_err-take_piece-clau
 returns-in_err-take_piece-clause-steps g c =
     work_of_state c.args.piece.now c.self.inside c.args.self.now c.args.steps.now c.take_piece.new.steps c.self.view_is c.in_err-take_piece.ensures.steps
 
-
 pub returns-then-is_refused-clause-steps : goal.returns-then-is_refused-clause-steps
 returns-then-is_refused-clause-steps g c =
     work_of_state c.args.piece.now c.self.inside c.args.self.now c.args.steps.now c.take_piece.new.steps c.self.view_is c.in_ok-take_piece.ensures.steps
-
 
 pub returns-clause-steps : goal.returns-clause-steps
 returns-clause-steps g c =

@@ -30,7 +30,6 @@ pub returns-in_err-status-clause-steps : goal.returns-in_err-status-clause-steps
 returns-in_err-status-clause-steps g c =
     work_of_state c.args.piece.now c.self.inside c.args.self.now c.args.steps.now c.take_last.new.steps c.self.view_is c.in_err-status.ensures.steps
 
-
 pub returns-clause-steps : goal.returns-clause-steps
 returns-clause-steps g c =
     work_of_state c.args.piece.now c.self.inside c.args.self.now c.args.steps.now c.take_last.new.steps c.self.view_is c.in_ok-status.ensures.steps
