@@ -10,5 +10,6 @@ pub mod NameLemmas
 pub mod StartLemmas
 pub mod FeedLemmas
 pub mod EndLemmas
+pub mod StageLemmas
 pub mod StandingLemmas
 pub mod JobLemmas
