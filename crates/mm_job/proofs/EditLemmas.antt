@@ -1,9 +1,10 @@
 -- What a session makes of an edit is what the definitions say of it.
-use Rattle.std.proofs.Common.{◌≡◌, ◌≤◌, ◌<◌, ◌⊎◌, inl, inr, ℤ, nat_abs, ℕ, ◌+◌, Bool, true, false, not, ◌||◌, ◌==◌, List, [], ◌∷◌, ◌++◌, length, Option, Some, None, refl, sym, ap, ap₂, subst, ◌∙◌, arith}
+use Rattle.std.proofs.Common.{◌≡◌, ◌≤◌, ◌<◌, ◌⊎◌, inl, inr, ℤ, nat_abs, ℕ, ◌+◌, Bool, true, false, not, ◌||◌, ◌==◌, List, [], ◌∷◌, ◌++◌, length, Option, Some, None, refl, sym, ap, ap₂, subst, ◌∙◌, arith, w64, to_z, of_z}
 use Rattle.std.specs.Prelude.{nat_lt, nat_le, if◌then◌else◌, IfOk, OnOk, Ok, Err}
 use Rattle.std.specs.Result.{result_ok}
 use Rattle.std.specs.declared.result.Result.{Result}
 use Rattle.std.proofs.lemmas.Bool.{le-ltb, lt-ltb, ltb-false, ltb-true, or_right}
+use Rattle.std.proofs.lemmas.Int.{to_z-of_z}
 use Rattle.std.proofs.lemmas.Option.{none-some, same_Some}
 use Rattle.mm_edit.specs.Edits as edits
 use Rattle.mm_edit.specs.Edits.{Accepted, Applied, Edits, Started, edit_fault, exchanged_at, most_steps, no_node, reweighted, reweighted_at, unless_fault}
@@ -308,6 +309,11 @@ weight_valid_by : (f : Field) (T : Tree) (name : List ℕ) (w : ℤ) (b : Bool) 
 weight_valid_by f T name w true None v = tt
 weight_valid_by f T name w true (Some path) v = v
 weight_valid_by f T name w false o v = tt
+
+-- a weight within its limit is read as it was written
+pub weight_fits : (w : ℤ) → nat_abs w ≤ most_weight → to_z w64 (of_z w64 w) ≡ w
+weight_fits (pos n) h = to_z-of_z w64 (pos n) (record { sfits = omega arith })
+weight_fits (negsuc n) h = to_z-of_z w64 (negsuc n) (record { sfits = omega arith })
 
 pub weight_valid : (f : Field) (T : Tree) (name : List ℕ) (w : ℤ) → nat_abs w ≤ most_weight → IsValidTree f T → KeepsValid f (reweighted name w T)
 weight_valid f T name w light v = weight_valid_by f T name w (is_one_of name (element_names T)) (path_to name T) (valid_weight f name w T light v)

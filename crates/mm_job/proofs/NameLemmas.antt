@@ -16,7 +16,8 @@ spaced_names names = flat_map (λ name. codes " " ++ name) names
 pub name_more : (names : List (List ℕ)) (i : ℕ) (name first text more : List ℕ) → slice_get names i ≡ Some name → text ≡ first ++ spaced_names (take i names)
     → more ≡ text ++ codes " " ++ name → more ≡ first ++ spaced_names (take (i + 1) names)
 name_more names i name first text more at before word =
-    let all : spaced_names (take (i + 1) names) ≡ spaced_names (take i names) ++ codes " " ++ name =
+    let all : spaced_names (take (i + 1) names) ≡ spaced_names (take i names) ++ (codes " " ++ name) =
     ap spaced_names (take_next names i name at) ∙ flat_map-append (λ name. codes " " ++ name) (take i names) (name ∷ [])
     ∙ ap (λ l. spaced_names (take i names) ++ l) (append-nil (codes " " ++ name)) in
-    word ∙ ap (λ l. l ++ codes " " ++ name) before ∙ append_assoc first (spaced_names (take i names)) (codes " " ++ name) ∙ ap (λ l. first ++ l) (sym all)
+    word ∙ ap (λ l. l ++ codes " " ++ name) before ∙ append_assoc (first ++ spaced_names (take i names)) (codes " ") name
+    ∙ append_assoc first (spaced_names (take i names)) (codes " " ++ name) ∙ ap (λ l. first ++ l) (sym all)

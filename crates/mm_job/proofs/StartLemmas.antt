@@ -159,12 +159,12 @@ query_read limit h T line q r Q ok is read rs =
     at ∙ ap (λ (x : Query). Read (session_with limit h x T) rs) (sym is)
 
 stops_as : {X : Type 0} (e : Stop) (all : Reading Session) (f : X → Reading Session) (r : Result X Stop) → r ≡ Err e → Goes r all f → Goes {X = X} (Err e) all f
-stops_as e all f r is h = subst (λ (x : Result X Stop). Goes x all f) is h
+stops_as {X} e all f r is h = subst (λ (x : Result X Stop). Goes x all f) is h
 
 -- a refused query line refuses the header
 pub stopped_goes : {X : Type 0} (limit : ℕ) (p : Parts) (line : Line) (e : Stop) (r : Result X Stop) (f : X → List Line → Reading Session) → r ≡ Err e
     → ((rs : List Line) → Goes r (query_part limit p (line ∷ rs)) (λ x. f x rs)) → (rs : List Line) → Goes {X = Editor} (Err e) (after_parts limit p (line ∷ rs)) (λ e. Read (session_of e) rs)
-stopped_goes limit p line (stop.Refused why) r f is goes rs =
+stopped_goes {X} limit p line (stop.Refused why) r f is goes rs =
     ap (λ (x : Reading Session). and_then x (λ s. now (started s))) (stops_as (stop.Refused why) (query_part limit p (line ∷ rs)) (λ x. f x rs) r is (goes rs))
 stopped_goes limit p line stop.NoMemory r f is goes rs = tt
 

@@ -4,7 +4,7 @@ use Rattle.mm_edit.specs.Edits as edits
 use Rattle.mm_field.specs.declared.Field.{Field}
 use Rattle.mm_job.specs.Edits.{exchanged, replaced_path}
 use Rattle.mm_job.specs.State.Replies.{RepliesToEdit}
-use Rattle.mm_job.proofs.EditLemmas.{edit_replied, edit_spent, editor_edited, exchange_matches, exchange_valid, for_each_path}
+use Rattle.mm_job.proofs.EditLemmas.{edit_replied, edit_spent, editor_edited, exchange_matches, exchange_valid, for_each_path, with_session}
 use Rattle.mm_tree.specs.ValidTree.{IsValidTree}
 use Rattle.mm_job.proofs.editor.exchange.Goals as goal
 
@@ -23,7 +23,7 @@ returns-clause-replies g c =
     let tree = old.session.tree.tree in
     let n = c.args.line.now.number in
     let new = subst (λ (f : Field). IsValidTree f c.args.tree.tree) c.requires.field c.node.ensures.valid in
-    for_each_path (λ path. replaced_path tree above.name above.up ≡ Ok path) (λ path. RepliesToEdit old c.replace-done.new.editor (exchanged tree path c.args.tree.tree n)) c.reply.result
+    for_each_path (λ path. replaced_path tree above.name above.up ≡ Ok path) (λ path. RepliesToEdit old (with_session old c.replace-done.new.self) (exchanged tree path c.args.tree.tree n)) c.reply.result
     (λ path at.
     edit_replied old c.replace-done.new.self (edits.exchanged above.name above.up c.args.tree.tree tree) (exchanged tree path c.args.tree.tree n) n c.replace-done.result c.reply.result
     c.requires.editor c.replace-done.ensures.edits (exchange_matches n tree c.args.tree.tree above.name above.up path at)

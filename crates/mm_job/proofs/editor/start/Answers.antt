@@ -19,48 +19,48 @@ use Rattle.mm_job.proofs.editor.start.Goals as goal
 pub begin-requires-clause-sorted : goal.begin-requires-clause-sorted
 begin-requires-clause-sorted g c =
     let q = c.in-Ok.query in
-    let m = c.in-Ok-in-Ok.machine in
+    let m = c.in-Ok-machine_of.machine in
     shape_sorted (kind_of q) (shape_in m.parts) (query_value q)
-    (IfOk-at_ok (λ m. query_of (kind_of q) (shape_in m.parts) ≡ query_value q) c.in-Ok-in-Ok.is c.machine_of.ensures.shape)
-    (IfOk-at_ok (λ m. WellSorted (λ k. false) (asked (query_value q))) c.in-Ok-in-Ok.is c.machine_of.ensures.sorted)
+    (IfOk-at_ok (λ m. query_of (kind_of q) (shape_in m.parts) ≡ query_value q) c.in-Ok-machine_of.is c.machine_of.ensures.shape)
+    (IfOk-at_ok (λ m. WellSorted (λ k. false) (asked (query_value q))) c.in-Ok-machine_of.is c.machine_of.ensures.sorted)
 
-pub returns-in-Ok-in-Ok-clause-editor : goal.returns-in-Ok-in-Ok-clause-editor
-returns-in-Ok-in-Ok-clause-editor g c =
-    let Q = query_of c.kind_of.result (shape_in c.in-Ok-in-Ok.machine.parts) in
+pub returns-in-Ok-machine_of-clause-editor : goal.returns-in-Ok-machine_of-clause-editor
+returns-in-Ok-machine_of-clause-editor g c =
+    let Q = query_of c.kind_of.result (shape_in c.in-Ok-machine_of.machine.parts) in
     start_editor (session_with c.args.limit c.args.header Q c.args.tree.tree) c.begin.result c.begin.ensures.begins
 
-pub returns-in-Ok-in-Ok-clause-goes : goal.returns-in-Ok-in-Ok-clause-goes
-returns-in-Ok-in-Ok-clause-goes g c =
+pub returns-in-Ok-machine_of-clause-goes : goal.returns-in-Ok-machine_of-clause-goes
+returns-in-Ok-machine_of-clause-goes g c =
     let limit = c.args.limit in
     let header = c.args.header in
     let tree = c.args.tree.tree in
     let line = c.args.line.now in
     let q = c.in-Ok.query in
-    let F = shape_in c.in-Ok-in-Ok.machine.parts in
+    let F = shape_in c.in-Ok-machine_of.machine.parts in
     let Q = query_of c.kind_of.result F in
     let shaped : query_of (kind_of q) F ≡ query_value q =
-    IfOk-at_ok (λ m. query_of (kind_of q) (shape_in m.parts) ≡ query_value q) c.in-Ok-in-Ok.is c.machine_of.ensures.shape in
+    IfOk-at_ok (λ m. query_of (kind_of q) (shape_in m.parts) ≡ query_value q) c.in-Ok-machine_of.is c.machine_of.ensures.shape in
     let shape : Q ≡ query_value q = ap (λ (k : Kind). query_of k F) c.kind_of.ensures ∙ shaped in
     let read = query_read limit header tree line q c.checked_query.result Q c.in-Ok.is shape c.checked_query.ensures.goes in
     start_goes limit (header_value header, tree) line (session_with limit header Q tree) c.begin.result read c.begin.ensures.begins
 
-pub returns-in-Ok-in-Ok-clause-steps : goal.returns-in-Ok-in-Ok-clause-steps
-returns-in-Ok-in-Ok-clause-steps g c =
+pub returns-in-Ok-machine_of-clause-steps : goal.returns-in-Ok-machine_of-clause-steps
+returns-in-Ok-machine_of-clause-steps g c =
     let limit = c.args.limit in
     let header = c.args.header in
     let tree = c.args.tree.tree in
     let line = c.args.line.now in
     let q = c.in-Ok.query in
-    let F = shape_in c.in-Ok-in-Ok.machine.parts in
+    let F = shape_in c.in-Ok-machine_of.machine.parts in
     let Q = query_of c.kind_of.result F in
     let shaped : query_of (kind_of q) F ≡ query_value q =
-    IfOk-at_ok (λ m. query_of (kind_of q) (shape_in m.parts) ≡ query_value q) c.in-Ok-in-Ok.is c.machine_of.ensures.shape in
+    IfOk-at_ok (λ m. query_of (kind_of q) (shape_in m.parts) ≡ query_value q) c.in-Ok-machine_of.is c.machine_of.ensures.shape in
     let shape : Q ≡ query_value q = ap (λ (k : Kind). query_of k F) c.kind_of.ensures ∙ shaped in
     let read = query_read limit header tree line q c.checked_query.result Q c.in-Ok.is shape c.checked_query.ensures.goes in
     start_spends limit (header_value header, tree) line (session_with limit header Q tree) c.begin.result c.args.steps.now c.begin.new.steps read c.begin.ensures.begins c.begin.ensures.steps
 
-pub returns-in-Ok-in-Err-clause-steps : goal.returns-in-Ok-in-Err-clause-steps
-returns-in-Ok-in-Err-clause-steps g c =
+pub returns-in-Err-machine_of-clause-steps : goal.returns-in-Err-machine_of-clause-steps
+returns-in-Err-machine_of-clause-steps g c =
     most_none (λ rs. work_after (query_part c.args.limit (header_value c.args.header, c.args.tree.tree) rs)) (c.args.line.now ∷ []) c.args.steps.now
 
 pub returns-in-Err-clause-goes : goal.returns-in-Err-clause-goes
