@@ -1,6 +1,6 @@
 -- What a session makes of an edit is what the definitions say of it.
 use Rattle.std.proofs.Common.{◌≡◌, ◌≤◌, ◌<◌, ◌⊎◌, inl, inr, ℤ, nat_abs, ℕ, ◌+◌, Bool, true, false, not, ◌||◌, ◌==◌, List, [], ◌∷◌, ◌++◌, length, Option, Some, None, refl, sym, ap, ap₂, subst, ◌∙◌, arith, w64, to_z, of_z}
-use Rattle.std.specs.Prelude.{nat_lt, nat_le, if◌then◌else◌, IfOk, OnOk, Ok, Err}
+use Rattle.std.specs.Prelude.{nat_lt, nat_le, if◌then◌else◌, IfOk, OnOk, Ok, Err, pos, negsuc}
 use Rattle.std.specs.Result.{result_ok}
 use Rattle.std.specs.declared.result.Result.{Result}
 use Rattle.std.proofs.lemmas.Bool.{le-ltb, lt-ltb, ltb-false, ltb-true, or_right}

@@ -17,8 +17,8 @@ use Rattle.mm_job.proofs.stage.take_query.Goals as goal
 
 pub returns-in_ok-output_line-in-Ok-clause-step : goal.returns-in_ok-output_line-in-Ok-clause-step
 returns-in_ok-output_line-in-Ok-clause-step g c =
-    query_taken c.args.limit (header_value c.args.header, c.args.tree.tree) c.args.line.now c.start.result c.in-Ok.editor c.in_ok-output_line.output_line
-    c.in-Ok.is c.in_ok-output_line.ensures c.start.ensures.goes
+    query_taken c.args.limit (header_value c.args.header, c.args.tree.tree) c.args.line.now c.start.result c.in-Ok.editor c.in_ok-output_line-in-Ok.output_line
+    c.in-Ok.is c.in_ok-output_line-in-Ok.ensures c.start.ensures.goes
 
 pub returns-in_ok-output_line-in-Ok-clause-spends : goal.returns-in_ok-output_line-in-Ok-clause-spends
 returns-in_ok-output_line-in-Ok-clause-spends g c =
