@@ -1,7 +1,7 @@
 -- The query of a text: what it is, and the line that gives it.
 use Rattle.std.specs.Prelude.{ℕ, nat_le, ◌||◌, List, [], ◌∷◌, length, codes, Option, Some, None, Ok, Err, if◌then◌else◌}
 use Rattle.std.specs.declared.result.Result.{Result}
-use Rattle.mm_formula.specs.Scope.{scope_fault}
+use Rattle.mm_formula.specs.Scope.{scope_fault, slotted}
 use Rattle.mm_formula.specs.Syntax.{Syntax}
 use Rattle.mm_formula.specs.Variables.{is_var, is_set}
 use Rattle.mm_formula.specs.declared.scope.ScopeFault.{ScopeFault}
@@ -12,16 +12,13 @@ use Rattle.mm_formula_text.specs.Tokens.{tokens}
 use Rattle.mm_lines.specs.LineBytes.{bytes_of}
 use Rattle.mm_lines.specs.Tokens.{rest_of}
 use Rattle.mm_lines.specs.declared.line.Line.{Line}
+use Rattle.mm_logic.specs.StateSize.{Query}
+use Rattle.mm_logic.specs.StateSize.Query.{Decide, Least}
 use Rattle.mm_job_text.specs.Arguments.{args, begins, is_word}
 use Rattle.mm_job_text.specs.Checks.{◌>>=◌, ◌>>◌, require, found, unless, within}
 use Rattle.mm_job_text.specs.declared.refusal.Limit.TheVariants as limit
 use Rattle.mm_job_text.specs.declared.refusal.Refusal.{Refusal}
 use Rattle.mm_job_text.specs.declared.refusal.Refusal.TheVariants as refusal
-
--- A query: the set variable that is sought, if one is, and the formula.
-pub record Query : Type 0 where
-  pub sought : Option (List ℕ)
-  pub formula : Syntax
 
 -- How a text asks: by a formula that its query line spells, or by the word `minor`, which stands for a formula that is given.
 pub data Question : Type 0 where
@@ -44,9 +41,15 @@ scope_refusal n (Some NoMemory) = None
 abbrev pub most_formula : ℕ
 most_formula = 4096
 
--- A formula with its scope, in the line with number n.
+-- What a formula asks: whether it holds, or, where a set variable is sought, for the least set that satisfies it. Each variable is
+-- its slot then, and the sought one has slot 0.
+abbrev pub query_for : Option (List ℕ) → Syntax → Query
+query_for None F = Decide (slotted [] F)
+query_for (Some v) F = Least (slotted (v ∷ []) F)
+
+-- The query of a formula that is scoped, in the line with number n.
 abbrev pub scoped : ℕ → Option (List ℕ) → Syntax → Result Query Refusal
-scoped n sought F = unless (scope_refusal n (scope_fault F sought)) >> Ok (record { sought = sought; formula = F })
+scoped n sought F = unless (scope_refusal n (scope_fault F sought)) >> Ok (query_for sought F)
 
 -- The query of this text, in the line with number n, that seeks this variable, if any.
 unfoldable pub query_of : ℕ → Option (List ℕ) → List ℕ → Result Query Refusal

@@ -14,7 +14,8 @@ use Rattle.mm_job.specs.Header.{Session, query_part, started}
 use Rattle.mm_job.specs.Items.{items, rest_of_block}
 use Rattle.mm_job.specs.Output.{Ending, More, at_rest, cut_short, lines_after_header, lines_of_items}
 use Rattle.mm_job.specs.State.Sessions.{session_of}
-use Rattle.mm_job.specs.State.Stages.{lines_from_stage}
+use Rattle.mm_job.specs.State.Stages.{lines_from_stage, work_from_stage}
+use Rattle.mm_job.specs.Work.{items_work, work_after}
 use Rattle.mm_job.specs.declared.block.Block.{Block}
 use Rattle.mm_job.specs.declared.stage.Stage.{Stage}
 use Rattle.mm_job.specs.declared.stage.Stage.TheVariants as stage
@@ -48,3 +49,12 @@ quiet limit (stage.Query g t) = end_query limit g t More
 quiet limit (stage.Items s (Some b)) = inside (session_of s) b More
 quiet limit (stage.Items s None) = between (session_of s) More
 quiet limit stage.Refused = refl
+
+-- no lines are no work
+pub nothing_left : (limit : ℕ) (s : Stage) → work_from_stage limit s [] ≡ 0
+unfolding query_part rest_of_block items items_work
+nothing_left limit (stage.Header h) = ap (λ (r : Reading Parts). work_after (and_then r (query_part limit))) (state_short job_rules h)
+nothing_left limit (stage.Query g t) = refl
+nothing_left limit (stage.Items s (Some b)) = refl
+nothing_left limit (stage.Items s None) = refl
+nothing_left limit stage.Refused = refl

@@ -39,11 +39,11 @@ over_lines a h = ap (λ (c : Bool). lines_of (not c) (take most_bytes a)) h
 
 -- The lines of a text that goes on begin with the settled ones.
 
-settled_next : (a b : List ℕ) → IsFront (settled a) (settled (a ++ b))
+pub settled_next : (a b : List ℕ) → IsFront (settled a) (settled (a ++ b))
 unfolding settled
 settled_next a b = settled_stay false a b
 
-settled_whole : (a b : List ℕ) → IsFront (settled a) (lines (a ++ b))
+pub settled_whole : (a b : List ℕ) → IsFront (settled a) (lines (a ++ b))
 unfolding lines
 settled_whole a b = settled_stay (not (is_over (a ++ b))) a b
 

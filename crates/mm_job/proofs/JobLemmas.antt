@@ -20,8 +20,11 @@ use Rattle.mm_job.specs.State.Kept.{IsJob, IsLive, state_of}
 use Rattle.mm_job.specs.declared.job.Job.TheInside.{Inside}
 use Rattle.mm_job.specs.Output.{Ending, More, Over, after_reply, end_of, is_refusal, printed_all, reply_line, settled_lines, settled_output, status_of, written_lines, lines_after_header, lines_of_items}
 use Rattle.mm_job.specs.Edits.{block, single}
-use Rattle.mm_job.specs.State.Stages.{lines_from_stage}
-use Rattle.mm_job.specs.State.Standing.{IsRead, Stands, written_at}
+use Rattle.mm_job.specs.State.Stages.{lines_from_stage, work_from_stage}
+use Rattle.mm_job.specs.State.Standing.{IsRead, Stands, work_at, written_at}
+use Rattle.mm_job.specs.Calls.{SpendsOnText}
+use Rattle.mm_job.specs.Work.{bound_of, settled_work, work}
+use Rattle.mm_nodes.specs.declared.TheConstants.{MAX_LIMIT}
 use Rattle.mm_job.specs.declared.state.JobState.{JobState}
 use Rattle.mm_header.specs.declared.state.HeaderState.TheVariants as heads
 use Rattle.mm_job.specs.declared.progress.Progress.{Progress}
@@ -29,7 +32,7 @@ use Rattle.mm_job.specs.declared.progress.Progress.TheVariants as progresses
 use Rattle.mm_job.specs.declared.output_line.OutputLine.{OutputLine}
 use Rattle.mm_job.specs.declared.stage.Stage.TheVariants as stages
 use Rattle.mm_job.specs.Laws.{IsFinal}
-use Rattle.mm_job.proofs.EndLemmas.{quiet}
+use Rattle.mm_job.proofs.EndLemmas.{nothing_left, quiet}
 use Rattle.mm_job.proofs.GrowthLemmas.{over_end, over_is_final, refused_end, refused_is_final}
 use Rattle.mm_job.proofs.StandingLemmas.{not_over, refused_is, settled_at, settled_output_at}
 
@@ -47,6 +50,10 @@ first_of_all : (limit : ℕ) (e : Ending) (rs : List Line) → written_lines lim
 unfolding written_lines header header_lines
 first_of_all limit e rs = refl
 
+work_of_all : (limit : ℕ) (rs : List Line) → work limit rs ≡ work_from_stage limit (stages.Header heads.Format) rs
+unfolding work header_lines
+work_of_all limit rs = refl
+
 quiet_first : (limit : ℕ) → written_lines limit More (settled []) ≡ []
 quiet_first limit = ap (written_lines limit More) no_lines ∙ first_of_all limit More [] ∙ quiet limit (stages.Header heads.Format)
 
@@ -57,6 +64,11 @@ stands_first limit state is =
       kept = tt;
       rest = λ e rs. ap (λ (l : List Line). written_lines limit e (l ++ rs)) no_lines ∙ first_of_all limit e rs
           ∙ ap (λ (l : List OutputLine). l ++ lines_from_stage limit (stages.Header heads.Format) e rs) (sym (quiet_first limit));
+      works = λ rs.
+          let all : work limit (settled [] ++ rs) ≡ work_from_stage limit (stages.Header heads.Format) rs =
+          ap (λ (l : List Line). work limit (l ++ rs)) no_lines ∙ work_of_all limit rs in
+          let none : work_at limit [] ≡ 0 = ap (work limit) no_lines ∙ work_of_all limit [] ∙ nothing_left limit (stages.Header heads.Format) in
+          omega (arith, all, none);
       comes = ap (come_to None) (sym (quiet_first limit));
     })
 
@@ -155,13 +167,14 @@ long_progress limit text piece size long =
 pub live_of : (i : Inside) (s : JobValue) → state_of i ≡ s → s.live ≡ true → IsJob i → IsLive i
 live_of i s view live kept = kept (ap (λ (v : JobValue). v.live) view ∙ live)
 
-pub first_live : (i : Inside) → i.taken ≡ 0 → i.framer ≡ record { bytes = []; ended = false; handed = 0 } → i.state ≡ record { stage = stages.Header heads.Format; status = None } → IsLive i
-first_live i none framer state =
+pub first_live : (i : Inside) → i.limit ≤ MAX_LIMIT → i.taken ≡ 0 → i.framer ≡ record { bytes = []; ended = false; handed = 0 } → i.state ≡ record { stage = stages.Header heads.Format; status = None } → IsLive i
+first_live i limited none framer state =
     let empty : i.framer.bytes ≡ [] = ap (λ (s : Stream). s.bytes) framer in
     record {
       taken = none ∙ ap length (sym empty);
       size = omega (arith, ap length empty);
       stream = subst IsRead (sym framer) (record { open_ended = refl; all = sym (ap length first_lines) });
+      limited = limited;
       stands = subst (λ (l : List ℕ). Stands i.limit l i.state) (sym empty) (stands_first i.limit i.state state);
     }
 
@@ -188,6 +201,19 @@ pub last_of_state : (R : List ℕ → List ℕ → Type 0) (piece : List ℕ) (i
 last_of_state R piece i s view size h =
     let small = size_of i s piece view size in
     of_state R (λ limit text. written_at Over limit (text ++ piece)) i s view (omega (arith, small)) h
+
+-- what holds of the work by the fields holds of it as callers see it
+pub work_of_state : (piece : List ℕ) (i : Inside) (s : JobValue) (steps steps_new : ℕ) → state_of i ≡ s
+    → SpendsOnText steps steps_new (work_at i.limit i.framer.bytes) (work_at i.limit (i.framer.bytes ++ piece))
+    → SpendsOnText steps steps_new (settled_work s.text s.limit) (settled_work (s.text ++ piece) s.limit)
+work_of_state piece i s steps steps_new view h =
+    subst (λ (v : JobValue). SpendsOnText steps steps_new (settled_work v.text v.limit) (settled_work (v.text ++ piece) v.limit)) view h
+
+pub bound_of_state : (i : Inside) (s : JobValue) (steps steps_new : ℕ) → state_of i ≡ s
+    → SpendsOnText steps steps_new (work_at i.limit i.framer.bytes) (bound_of i.framer.bytes i.limit)
+    → SpendsOnText steps steps_new (settled_work s.text s.limit) (bound_of s.text s.limit)
+bound_of_state i s steps steps_new view h =
+    subst (λ (v : JobValue). SpendsOnText steps steps_new (settled_work v.text v.limit) (bound_of v.text v.limit)) view h
 
 pub state_refused : (piece : List ℕ) (i : Inside) (s : JobValue) (b : JobState) (c : Bool) → state_of i ≡ s → length s.text + length piece ≤ most_bytes
     → Stands i.limit (i.framer.bytes ++ piece) b → c ≡ is_refused b.status → c ≡ true → progresses.Ended status.Refused ≡ progress (s.text ++ piece) s.limit
@@ -230,6 +256,12 @@ pub last_output : (s : JobValue) (room : ℕ) (piece : List ℕ) → Room s room
     → written_at Over s.limit (s.text ++ take room piece) ≡ settled_output (with_piece s.text piece) s.limit
 last_output s room piece r long =
     ap (λ (k : ℕ). written_at Over s.limit (s.text ++ take k piece)) r.is ∙ sym (long_output s.limit s.text piece r.size (omega (arith, long, r.is)))
+
+pub last_work : (s : JobValue) (room : ℕ) (piece : List ℕ) → Room s room → room < length piece
+    → settled_work (s.text ++ take room piece) s.limit ≡ settled_work (with_piece s.text piece) s.limit
+last_work s room piece r long =
+    ap (λ (k : ℕ). settled_work (s.text ++ take k piece) s.limit) r.is
+    ∙ ap (work s.limit) (sym (long_settled s.text piece r.size (omega (arith, long, r.is))))
 
 pub fits : (s : JobValue) (room : ℕ) (piece : List ℕ) → Room s room → length piece ≤ room → with_piece s.text piece ≡ s.text ++ piece
 fits s room piece r short = whole_piece s.text piece (omega (arith, short, r.is, r.size))

@@ -1,8 +1,13 @@
 pub mod HeaderLemmas
 pub mod ItemLemmas
 pub mod GrowthLemmas
+pub mod WorkLemmas
+pub mod SpendingLemmas
 pub mod BlockLemmas
-pub mod TruthLemmas
+pub mod EditLemmas
+pub mod AnswerLemmas
+pub mod NameLemmas
+pub mod StartLemmas
 pub mod FeedLemmas
 pub mod EndLemmas
 pub mod StandingLemmas

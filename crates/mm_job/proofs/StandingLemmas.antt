@@ -21,11 +21,15 @@ use Rattle.mm_job.specs.State.JobStates.{come_to, is_refused, status_at}
 use Rattle.mm_job.specs.State.Feeding.{Fed, IsWithin, left}
 use Rattle.mm_job.specs.Jobs.{Grew, GrewByFront, begins_refused}
 use Rattle.mm_job.specs.Output.{Ending, More, Ended, Over, end_of, is_refusal, output, output_lines, printed, printed_all, settled_lines, settled_output, status_of, written_lines}
-use Rattle.mm_job.specs.State.Stages.{IsKeptAt, lines_from_stage}
-use Rattle.mm_job.specs.State.Standing.{IsRead, Stands, written_at}
+use Rattle.mm_job.specs.Calls.{SpendsOnText}
+use Rattle.mm_job.specs.State.Spending.{Spends, SpendsAtMost}
+use Rattle.mm_job.specs.State.Stages.{IsKeptAt, lines_from_stage, work_from_stage}
+use Rattle.mm_job.specs.State.Standing.{IsRead, Stands, work_at, written_at}
+use Rattle.mm_job.specs.Work.{bound_of, work}
 use Rattle.mm_job.specs.declared.state.JobState.{JobState}
 use Rattle.mm_job.specs.declared.output_line.OutputLine.{OutputLine}
-use Rattle.mm_job.proofs.EndLemmas.{quiet}
+use Rattle.mm_job.proofs.EndLemmas.{nothing_left, quiet}
+use Rattle.mm_job.proofs.WorkLemmas.{work_grows}
 use Rattle.mm_job.proofs.FeedLemmas.{come_on, nothing_written}
 
 -- ---- texts that are not too long
@@ -102,15 +106,57 @@ output_line_quiet limit text a b all new lines_new held held_new stands fed none
     let X = written_lines limit More (settled text) ++ fed.outputs in
     output_line_now limit text a b all new lines_new held held_new stands fed none is More ∙ ap (λ (l : List OutputLine). X ++ l) (quiet limit b.stage) ∙ append-nil X
 
-pub stands_next : (limit : ℕ) (text whole : List ℕ) (a b : JobState) (new lines_new : List Line) (held held_new : Option (List ℕ)) → Stands limit text a → Fed limit a b new lines_new held held_new
+-- ---- the work of all lines of a longer text
+
+works_on : (limit : ℕ) (text : List ℕ) (a b : JobState) (all new lines_new : List Line) (steps steps_new : ℕ) → Stands limit text a
+    → (spent : Spends (work_from_stage limit a.stage) (work_from_stage limit b.stage) new lines_new steps steps_new)
+    → lines_new ≡ [] → all ≡ settled text ++ new → (rs : List Line) → work limit (all ++ rs) ≡ (work_at limit text + spent.work) + work_from_stage limit b.stage rs
+works_on limit text a b all new lines_new steps steps_new stands spent none is rs =
+    let whole : work limit (all ++ rs) ≡ work_at limit text + work_from_stage limit a.stage (new ++ rs) =
+    ap (λ (l : List Line). work limit (l ++ rs)) is ∙ ap (work limit) (append_assoc (settled text) new rs) ∙ stands.works (new ++ rs) in
+    let rest : work_from_stage limit a.stage (new ++ rs) ≡ spent.work + work_from_stage limit b.stage rs =
+    spent.same rs ∙ ap (λ (l : List Line). spent.work + work_from_stage limit b.stage (l ++ rs)) none in
+    omega (arith, whole, rest)
+
+works_now : (limit : ℕ) (text : List ℕ) (a b : JobState) (all new lines_new : List Line) (steps steps_new : ℕ) → Stands limit text a
+    → (spent : Spends (work_from_stage limit a.stage) (work_from_stage limit b.stage) new lines_new steps steps_new)
+    → lines_new ≡ [] → all ≡ settled text ++ new → work limit all ≡ work_at limit text + spent.work
+works_now limit text a b all new lines_new steps steps_new stands spent none is =
+    let whole = works_on limit text a b all new lines_new steps steps_new stands spent none is [] in
+    let same : work limit all ≡ work limit (all ++ []) = ap (work limit) (sym (append-nil all)) in
+    let left_none = nothing_left limit b.stage in
+    omega (arith, whole, same, left_none)
+
+-- the steps that were taken for the lines that a text has more
+pub spent_more : {X E : Type 0} (limit : ℕ) (text : List ℕ) (a b : JobState) (all new lines_new : List Line) (r : Result X E) (steps steps_new : ℕ) → Stands limit text a
+    → all ≡ settled text ++ new → OnOk r (lines_new ≡ [])
+    → OnOk r (Spends (work_from_stage limit a.stage) (work_from_stage limit b.stage) new lines_new steps steps_new)
+    → OnErr r (SpendsAtMost (work_from_stage limit a.stage) new steps steps_new)
+    → SpendsOnText steps steps_new (work_at limit text) (work limit all)
+spent_more limit text a b all new lines_new (Ok x) steps steps_new stands is none spent most =
+    let now = works_now limit text a b all new lines_new steps steps_new stands spent none is in
+    let within = spent.within in
+    omega (arith, now, within)
+spent_more limit text a b all new lines_new (Err e) steps steps_new stands is none spent most =
+    let now : work limit all ≡ work_at limit text + work_from_stage limit a.stage new = ap (work limit) is ∙ stands.works new in
+    let few : steps_new ≤ steps + work_from_stage limit a.stage new =
+    subst (λ (l : List Line). steps_new ≤ steps + work_from_stage limit a.stage l) (append-nil new) (most []) in
+    omega (arith, now, few)
+
+pub stands_next : (limit : ℕ) (text whole : List ℕ) (a b : JobState) (new lines_new : List Line) (held held_new : Option (List ℕ)) (steps steps_new : ℕ) → Stands limit text a
+    → Fed limit a b new lines_new held held_new → Spends (work_from_stage limit a.stage) (work_from_stage limit b.stage) new lines_new steps steps_new
     → lines_new ≡ [] → settled whole ≡ settled text ++ new → IsKeptAt b.stage → Stands limit whole b
-stands_next limit text whole a b new lines_new held held_new stands fed none is kept =
+stands_next limit text whole a b new lines_new held held_new steps steps_new stands fed spent none is kept =
     let T = written_lines limit More (settled text) in
     let now = output_line_quiet limit text a b (settled whole) new lines_new held held_new stands fed none is in
     record {
       kept = kept;
       rest = λ e rs. output_line_on limit text a b (settled whole) new lines_new held held_new stands fed none is e rs
           ∙ ap (λ (l : List OutputLine). l ++ lines_from_stage limit b.stage e rs) (sym now);
+      works = λ rs.
+          let all = works_on limit text a b (settled whole) new lines_new steps steps_new stands spent none is rs in
+          let so_far = works_now limit text a b (settled whole) new lines_new steps steps_new stands spent none is in
+          omega (arith, all, so_far);
       comes = fed.comes ∙ ap (λ (s : Option Status). come_to s fed.outputs) stands.comes ∙ sym (come_on None T fed.outputs) ∙ ap (come_to None) (sym now);
     }
 
@@ -148,13 +194,26 @@ pub piece_within : (old mid : Stream) (piece : List ℕ) → IsRead old → mid 
 piece_within old mid piece read is =
     subst IsWithin (sym (is ∙ ap (λ (c : Bool). record old { bytes = old.bytes ++ piece; ended = c }) read.open_ended)) (more_within old false piece read)
 
-pub piece_stands : {E : Type 0} (limit : ℕ) (old mid new : Stream) (piece : List ℕ) (a c : JobState) (r : Result (Unit {0}) E) (held held_new : Option (List ℕ))
+pub piece_stands : {E : Type 0} (limit : ℕ) (old mid new : Stream) (piece : List ℕ) (a c : JobState) (r : Result (Unit {0}) E) (held held_new : Option (List ℕ)) (steps steps_new : ℕ)
     → Stands limit old.bytes a → IsRead old → length old.bytes + length piece ≤ most_bytes → mid ≡ record old { bytes = old.bytes ++ piece }
-    → OnOk r (Fed limit a c (left mid) (left new) held held_new) → OnOk r (left new ≡ []) → IfOk r (λ u. IsKeptAt c.stage)
-    → OnOk r (Stands limit (old.bytes ++ piece) c)
-piece_stands limit old mid new piece a c (Ok u) held held_new stands read size is fed none kept =
-    stands_next limit old.bytes (old.bytes ++ piece) a c (left mid) (left new) held held_new stands fed none (piece_lines old mid piece read size is) kept
-piece_stands limit old mid new piece a c (Err e) held held_new stands read size is fed none kept = tt
+    → OnOk r (Fed limit a c (left mid) (left new) held held_new)
+    → OnOk r (Spends (work_from_stage limit a.stage) (work_from_stage limit c.stage) (left mid) (left new) steps steps_new)
+    → OnOk r (left new ≡ []) → IfOk r (λ u. IsKeptAt c.stage) → OnOk r (Stands limit (old.bytes ++ piece) c)
+piece_stands limit old mid new piece a c (Ok u) held held_new steps steps_new stands read size is fed spent none kept =
+    stands_next limit old.bytes (old.bytes ++ piece) a c (left mid) (left new) held held_new steps steps_new stands fed spent none (piece_lines old mid piece read size is) kept
+piece_stands limit old mid new piece a c (Err e) held held_new steps steps_new stands read size is fed spent none kept = tt
+
+pub piece_spent : {X E : Type 0} (limit : ℕ) (old mid new : Stream) (piece : List ℕ) (a c : JobState) (r : Result X E) (steps steps_new : ℕ)
+    → Stands limit old.bytes a → IsRead old → length old.bytes + length piece ≤ most_bytes → mid ≡ record old { bytes = old.bytes ++ piece }
+    → OnOk r (left new ≡ []) → OnOk r (Spends (work_from_stage limit a.stage) (work_from_stage limit c.stage) (left mid) (left new) steps steps_new)
+    → OnErr r (SpendsAtMost (work_from_stage limit a.stage) (left mid) steps steps_new)
+    → SpendsOnText steps steps_new (work_at limit old.bytes) (work_at limit (old.bytes ++ piece))
+piece_spent limit old mid new piece a c r steps steps_new stands read size is none spent most =
+    spent_more limit old.bytes a c (settled (old.bytes ++ piece)) (left mid) (left new) r steps steps_new stands (piece_lines old mid piece read size is) none spent most
+
+-- without a step
+pub piece_unspent : (limit : ℕ) (text piece : List ℕ) (steps : ℕ) → SpendsOnText steps steps (work_at limit text) (work_at limit (text ++ piece))
+piece_unspent limit text piece steps = let more = (work_grows limit text piece).longer in omega (arith, more)
 
 pub piece_grew : {E : Type 0} (limit : ℕ) (old mid new : Stream) (piece : List ℕ) (a c : JobState) (r : Result (Unit {0}) E) (held held_new : Option (List ℕ))
     → Stands limit old.bytes a → IsRead old → length old.bytes + length piece ≤ most_bytes → mid ≡ record old { bytes = old.bytes ++ piece }
@@ -337,3 +396,12 @@ pub text_cut : (limit : ℕ) (old mid : Stream) (a : JobState) (held held_new : 
 text_cut limit old mid a held held_new stands read size is grew =
     subst (λ (l : List OutputLine). GrewByFront held held_new (written_at More limit old.bytes) (printed_all l)) (sym (output_at limit old.bytes size))
     (front_next limit old.bytes a (lines_of true old.bytes) (left mid) held held_new Ended stands (text_lines old mid read size is) (grew Ended))
+
+pub text_spent : {X E : Type 0} (limit : ℕ) (old mid new : Stream) (a c : JobState) (r : Result X E) (steps steps_new : ℕ)
+    → Stands limit old.bytes a → IsRead old → length old.bytes ≤ most_bytes → mid ≡ record old { ended = true }
+    → OnOk r (left new ≡ []) → OnOk r (Spends (work_from_stage limit a.stage) (work_from_stage limit c.stage) (left mid) (left new) steps steps_new)
+    → OnErr r (SpendsAtMost (work_from_stage limit a.stage) (left mid) steps steps_new)
+    → SpendsOnText steps steps_new (work_at limit old.bytes) (bound_of old.bytes limit)
+text_spent limit old mid new a c r steps steps_new stands read size is none spent most =
+    subst (λ (l : List Line). SpendsOnText steps steps_new (work_at limit old.bytes) (work limit l)) (sym (lines_is old.bytes size))
+    (spent_more limit old.bytes a c (lines_of true old.bytes) (left mid) (left new) r steps steps_new stands (text_lines old mid read size is) none spent most)

@@ -1,22 +1,23 @@
 -- What each item of a job does: the tree after it, or its verdict, or the first of its refusals.
-use Rattle.std.specs.Prelude.{ℕ, ◌+◌, ◌-◌, ℤ, nat_abs, Bool, true, false, nat_le, List, [], length, take, codes, Option, Some, None, Ok, Err, if◌then◌else◌, ◌==◌}
+use Rattle.std.specs.Prelude.{ℕ, ◌+◌, ℤ, nat_abs, Bool, true, false, List, [], length, codes, Option, Some, None, Ok, Err, if◌then◌else◌, ◌==◌}
 use Rattle.std.specs.declared.result.Result.{Result}
 use Rattle.mm_base.specs.Names.{is_name}
 use Rattle.mm_field.specs.declared.Field.{Field}
+use Rattle.mm_edit.specs.Edits.{Applied}
 use Rattle.mm_header.specs.Rules.{job_rules}
-use Rattle.mm_job.specs.Header.{Session}
+use Rattle.mm_job.specs.Header.{Session, is_over_limit}
 use Rattle.mm_present.specs.Comparing.{Named, compared}
 use Rattle.mm_present.specs.declared.comparison.Verdict.{Verdict}
 use Rattle.mm_present.specs.declared.comparison.Verdict.TheVariants as verdict
-use Rattle.mm_job.specs.NotBuilt.{not_built, may_be_over, over_limit}
 use Rattle.mm_lines.specs.Numbers.{u32_of, i64_of}
 use Rattle.mm_lines.specs.declared.line.Line.{Line}
-use Rattle.mm_tree.specs.NamedTree.{Tree, element_names, is_one_of, nodes}
+use Rattle.mm_tree.specs.NamedTree.{Tree, element_names, is_one_of, leaf_names, nodes}
 use Rattle.mm_tree.specs.ValidTree.{most_weight}
 use Rattle.mm_tree.specs.Replacing.{replace_fault}
 use Rattle.mm_tree.specs.declared.replace.ReplaceFault.{ReplaceFault}
 use Rattle.mm_tree.specs.declared.replace.ReplaceFault.TheVariants as fault
 use Rattle.mm_tree.specs.Paths.{Path, path_to, with_node, with_weight}
+use Rattle.mm_tree.specs.Places.{path_above}
 use Rattle.mm_job_text.specs.Arguments.{args, begins, is_word, two_of}
 use Rattle.mm_job_text.specs.Checks.{◌>>=◌, ◌>>◌, require, found, unless, within}
 use Rattle.mm_job_text.specs.HeaderLines.{elements_line, row_line}
@@ -26,11 +27,6 @@ use Rattle.mm_job_text.specs.TreeLines.{tree_lines}
 use Rattle.mm_job_text.specs.declared.refusal.Limit.TheVariants as limit
 use Rattle.mm_job_text.specs.declared.refusal.Refusal.{Refusal}
 use Rattle.mm_job_text.specs.declared.refusal.Refusal.TheVariants as refusal
-
--- An edit that the present tree allows: the tree after it, and its cost.
-pub record Applied : Type 0 where
-  pub tree : Tree
-  pub cost : ℕ
 
 -- ---- `weight NAME WEIGHT`
 
@@ -42,18 +38,24 @@ weight_fields r = do
   weight ← found (i64_of t.1) (refusal.Syntax r.number)
   Ok (t.0, weight)
 
--- A new weight of an element.
-unfoldable pub weight_change : Tree → ℕ → List ℕ → ℤ → Result Applied Refusal
-weight_change tree n name weight = do
-  within (nat_abs weight) most_weight limit.Weight n
+-- Another weight of an element.
+unfoldable pub another_weight : Tree → List ℕ → ℤ → Result Applied Refusal
+another_weight tree name weight = do
   require (is_one_of name (element_names tree)) (refusal.Unknown name)
   path ← found (path_to name tree) (refusal.Unknown name)
   Ok (record { tree = with_weight name weight tree; cost = length path + 1 })
 
+-- The name and the weight of a line, where the weight is within its limit.
+unfoldable pub light_fields : Line → Result (List ℕ × ℤ) Refusal
+light_fields r = do
+  w ← weight_fields r
+  within (nat_abs w.1) most_weight limit.Weight r.number
+  Ok w
+
 unfoldable pub weight_edit : Session → Line → Result Applied Refusal
 weight_edit s r = do
-  w ← weight_fields r
-  not_built (weight_change s.tree r.number w.0 w.1)
+  w ← light_fields r
+  another_weight s.tree w.0 w.1
 
 -- ---- `replace NAME UP`, and the lines of its block
 
@@ -81,11 +83,10 @@ replace_fields r = do
   Ok (t.0, up)
 
 -- The path to the node so many steps above the leaf of a name.
-unfoldable pub path_above : Tree → List ℕ → ℕ → Result Path Refusal
-path_above tree name up = do
-  path ← found (path_to name tree) (refusal.Unknown name)
-  require (nat_le up (length path)) (refusal.NoNode name up)
-  Ok (take (length path - up) path)
+unfoldable pub replaced_path : Tree → List ℕ → ℕ → Result Path Refusal
+replaced_path tree name up = do
+  require (is_one_of name (leaf_names tree)) (refusal.Unknown name)
+  found (path_above name up tree) (refusal.NoNode name up)
 
 -- The tree with the node at the end of a path exchanged, by a block whose `end` has this number.
 unfoldable pub exchanged : Tree → Path → Tree → ℕ → Result Applied Refusal
@@ -93,17 +94,17 @@ exchanged tree path new n = do
   unless (exchange_refusal n (replace_fault tree path new))
   Ok (record { tree = with_node tree path new; cost = length path + nodes new })
 
--- A new subtree for the node so many steps above a leaf, by the lines of its block.
-unfoldable pub replacement : Session → List ℕ → ℕ → List Line → Result Applied Refusal
-replacement s name up rs = do
-  path ← path_above s.tree name up
-  new ← read_whole (tree_lines job_rules.leaves s.f s.ops [] rs)
+-- A new subtree for the node so many steps above a leaf, by the lines of its block after these trees.
+unfoldable pub replacement : Session → List ℕ → ℕ → List Tree → List Line → Result Applied Refusal
+replacement s name up trees rs = do
+  path ← replaced_path s.tree name up
+  new ← read_whole (tree_lines job_rules.leaves s.f s.ops trees rs)
   exchanged s.tree path new.0 new.1
 
 unfoldable pub replace_edit : Session → Line → List Line → Result Applied Refusal
 replace_edit s r rs = do
   w ← replace_fields r
-  not_built (replacement s w.0 w.1 rs)
+  replacement s w.0 w.1 [] rs
 
 -- ---- `check`, and the lines of its block
 
@@ -145,7 +146,7 @@ pub data Reply : Type 0 where
 
 -- An edit is done where the tree after it is not over the limit.
 abbrev pub accepted : Session → Applied → Reply
-accepted s a = if may_be_over s.limit s.query a.tree then Denied over_limit else Changed (record s { tree = a.tree })
+accepted s a = if is_over_limit s a.tree then Denied refusal.States else Changed (record s { tree = a.tree })
 
 abbrev pub changed : Session → Result Applied Refusal → Reply
 changed s (Ok a) = accepted s a

@@ -1,18 +1,17 @@
 -- The header of a job: the lines before its query, the query, and the agreement of the rows with the tree.
-use Rattle.std.specs.Prelude.{ℕ, not, Ok}
+use Rattle.std.specs.Prelude.{ℕ, Bool, not, nat_lt, Ok}
 use Rattle.std.specs.declared.result.Result.{Result}
 use Rattle.mm_field.specs.declared.Field.{Field}
 use Rattle.mm_header.specs.Header.{Parts, parts, matched}
-use Rattle.mm_header.specs.Queries.{Query, query_line}
+use Rattle.mm_header.specs.Queries.{query_line}
 use Rattle.mm_header.specs.Queries.Question.{Spelled}
 use Rattle.mm_header.specs.Rules.{job_rules}
-use Rattle.mm_job.specs.NotBuilt.{is_built, may_be_over, over_limit}
-use Rattle.mm_lines.specs.declared.line.Line.{Line}
+use Rattle.mm_logic.specs.StateSize.{Query, state_size}
 use Rattle.mm_ops.specs.Tables.{OperatorList as NamedOps}
-use Rattle.mm_tree.specs.NamedTree.{Tree}
+use Rattle.mm_tree.specs.NamedTree.{Tree, shape}
 use Rattle.mm_job_text.specs.Checks.{require}
 use Rattle.mm_job_text.specs.Checks.{◌>>=◌ as ◌>>>=◌}
-use Rattle.mm_job_text.specs.Readers.{Reader, ◌>>=◌, ◌>>◌, and_then, now, line, whole}
+use Rattle.mm_job_text.specs.Readers.{Reader, ◌>>=◌, ◌>>◌, and_then, now, line}
 use Rattle.mm_job_text.specs.declared.refusal.Refusal.{Refusal}
 use Rattle.mm_job_text.specs.declared.refusal.Refusal.TheVariants as refusal
 
@@ -24,27 +23,18 @@ pub record Session : Type 0 where
   pub limit : ℕ
   pub tree : Tree
 
--- A tree of a session is not over the limit.
-abbrev pub within_limit : Session → Tree → Result (Unit {0}) Refusal
-within_limit s tree = require (not (may_be_over s.limit s.query tree)) over_limit
+-- A tree is over the limit of a session where its state size exceeds it.
+unfoldable pub is_over_limit : Session → Tree → Bool
+is_over_limit s tree = nat_lt s.limit (state_size s.f s.query (shape tree))
 
 -- A session, where its tree is not over the limit.
 abbrev pub started : Session → Result Session Refusal
-started s = within_limit s s.tree >>>= λ u. Ok s
-
--- A query that is built.
-abbrev pub built : Query → Result (Unit {0}) Refusal
-built query = require (is_built query) refusal.NotBuilt
-
--- The query of its line, where it is built.
-abbrev pub built_line : Line → Result Query Refusal
-built_line r = whole (query_line Spelled) r >>>= λ query. built query >>>= λ u. Ok query
+started s = require (not (is_over_limit s s.tree)) refusal.States >>>= λ u. Ok s
 
 -- The query, and the tree matched with the given rows.
 unfoldable pub query_part : ℕ → Parts → Reader Session
 query_part limit p = do
   query ← line (query_line Spelled)
-  now (built query)
   now (matched p)
   now (Ok (record { f = p.0.f; ops = p.0.ops; query = query; limit = limit; tree = p.1 }))
 

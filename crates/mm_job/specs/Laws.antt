@@ -1,7 +1,8 @@
 -- What is written grows with the text.
-use Rattle.std.specs.Prelude.{◌≡◌, ℕ, List, ◌++◌}
+use Rattle.std.specs.Prelude.{◌≡◌, ◌≤◌, ℕ, List, ◌++◌}
 use Rattle.mm_job.specs.Header.{header}
 use Rattle.mm_job.specs.Output.{settled_output, output, end_of}
+use Rattle.mm_job.specs.Work.{bound_of, settled_work}
 use Rattle.mm_lines.specs.Fronts.{IsFront}
 use Rattle.mm_lines.specs.Lines.{settled}
 use Rattle.mm_job_text.specs.Readers.{Refused}
@@ -23,3 +24,8 @@ pub record IsFinal (limit : ℕ) (a b : List ℕ) : Type 0 where
   pub whole : output a limit ≡ settled_output a limit
   pub longer : output (a ++ b) limit ≡ settled_output a limit
   pub status : end_of (a ++ b) limit ≡ end_of a limit
+
+-- The work for what is settled never falls as a text goes on, and is within the bound of the text.
+pub record WorkGrows (limit : ℕ) (a b : List ℕ) : Type 0 where
+  pub longer : settled_work a limit ≤ settled_work (a ++ b) limit
+  pub whole : settled_work a limit ≤ bound_of a limit

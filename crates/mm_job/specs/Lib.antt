@@ -1,11 +1,10 @@
 pub mod Meaning
-pub mod NotBuilt
 pub mod Header
 pub mod Items
 pub mod Edits
 pub mod Output
+pub mod Work
 pub mod Laws
-pub mod PlainTruth
 pub mod Jobs
 pub mod Calls
 pub mod State

@@ -1,12 +1,16 @@
 //! The lines of edits, each by itself.
-ghost use Rattle.std.specs.Prelude.{◌≡◌, ◌∷◌, List, Ok, Err, MatchResult};
+ghost use Rattle.std.specs.Prelude.{◌≡◌, ◌≤◌, ◌∷◌, List, Ok, Err, MatchResult, IfOk, nat_abs};
 ghost use Rattle.mm_lines.specs.declared.line.Line.{Line};
-ghost use Rattle.mm_job.specs.Edits.{Denied, replace_fields, single, weight_fields};
+ghost use Rattle.mm_job.specs.Edits.{another_weight, light_fields, line_edit, replace_fields, weight_fields};
 ghost use Rattle.mm_job.specs.Header.{Session};
+ghost use Rattle.mm_tree.specs.ValidTree.{most_weight};
 
 use mm_base::Name;
-use mm_job_text::{Refusal, args, begins, too_long, two};
+use mm_job_text::{Limit, Refusal, args, begins, too_long, two};
 use mm_lines::{Line, read_i64, read_u32};
+
+/// The greatest weight, and the least one without its sign.
+const MAX_WEIGHT: u64 = 1_000_000_000_000;
 
 /// What a `weight` line says.
 #[derive(Clone, Copy, Debug)]
@@ -44,6 +48,20 @@ fn read_weight(line: &Line) -> Result<NewWeight, Refusal>
     }
 }
 
+/// The same, where the weight is within its limit.
+#[tactic(auto, unfolding(crate::specs::Edits::light_fields))]
+fn read_light(line: &Line) -> Result<NewWeight, Refusal>
+    ensures fields { MatchResult result
+        (λ w. light_fields line.now ≡ Ok (w.name, w.weight)) (λ refusal. light_fields line.now ≡ Err refusal) }
+    ensures light { IfOk result (λ w. nat_abs w.weight ≤ most_weight) }
+{
+    let new = read_weight(line)?;
+    if new.weight.unsigned_abs() > MAX_WEIGHT {
+        return Err(Refusal::Over(Limit::Weight, line.number));
+    }
+    Ok(new)
+}
+
 /// `replace NAME UP`
 #[tactic(auto, unfolding(crate::specs::Edits::replace_fields))]
 pub fn read_replace(line: &Line) -> Result<Above, Refusal>
@@ -62,19 +80,19 @@ pub fn read_replace(line: &Line) -> Result<Above, Refusal>
     }
 }
 
-/// The refusal of an item of one line.
-#[tactic(auto, unfolding(crate::specs::Edits::single, crate::specs::Edits::line_edit, crate::specs::Edits::weight_edit))]
-pub fn single_refusal(line: &Line) -> Refusal
-    ensures { (s : Session) → single s line.now ≡ Denied result }
+/// The weight that an item of one line gives, or its refusal.
+#[tactic(auto, unfolding(crate::specs::Edits::line_edit, crate::specs::Edits::weight_edit))]
+pub fn read_single(line: &Line) -> Result<NewWeight, Refusal>
+    ensures edit { MatchResult result
+        (λ w. (s : Session) → line_edit s line.now ≡ another_weight s.tree w.name w.weight)
+        (λ refusal. (s : Session) → line_edit s line.now ≡ Err refusal) }
+    ensures light { IfOk result (λ w. nat_abs w.weight ≤ most_weight) }
 {
     if let Some(refusal) = too_long(line) {
-        return refusal;
+        return Err(refusal);
     }
     if !begins(line, b"weight") {
-        return Refusal::Syntax(line.number);
+        return Err(Refusal::Syntax(line.number));
     }
-    match read_weight(line) {
-        Ok(_) => Refusal::NotBuilt,
-        Err(refusal) => refusal,
-    }
+    read_light(line)
 }

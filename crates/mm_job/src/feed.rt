@@ -10,16 +10,21 @@ ghost use Rattle.mm_job.specs.State.JobStates.{come_to, status_at};
 ghost use Rattle.mm_job.specs.State.Feeding.{Fed, FedLine, GrewByFrontOfPiece, GrewByPiece, IsWithin, last_lines, last_text, left};
 ghost use Rattle.mm_job.specs.Jobs.{HasJobCause};
 ghost use Rattle.mm_job.specs.Output.{Ending, More, Over, end_of, output, printed, printed_all, status_of, written_lines};
-ghost use Rattle.mm_job.specs.State.Standing.{IsRead, Stands, written_at};
-ghost use Rattle.mm_job.specs.State.Stages.{IsKeptAt, lines_from_stage};
+ghost use Rattle.mm_job.specs.State.Standing.{IsRead, Stands, work_at, written_at};
+ghost use Rattle.mm_job.specs.State.Spending.{Spends, SpendsAtMost};
+ghost use Rattle.mm_job.specs.State.Stages.{IsKeptAt, lines_from_stage, work_from_stage};
+ghost use Rattle.mm_job.specs.Calls.{SpendsOnText};
+ghost use Rattle.mm_job.specs.Work.{bound_of};
+ghost use Rattle.mm_nodes.specs.declared.TheConstants.{MAX_LIMIT};
 
 use crate::output_line::OutputLine;
 use crate::progress::JobFault;
 use crate::state::{JobState, after_step, last_output_line, status_at};
-use mm_base::{NoMemory, Sink, SinkFault, Status, Text, write_all};
+use mm_base::{NoMemory, Sink, SinkFault, Status, Steps, Text, write_all};
 use mm_job_text::words;
 use mm_lines::{Framer, Line};
 use std::alloc::Global;
+use std::sync::ledger::Ledger;
 
 /// A line as it is written.
 fn print(alloc: Global, output_line: &OutputLine) -> Result<Text, NoMemory>
@@ -70,33 +75,40 @@ fn write_output_line<K: Sink>(
 }
 
 /// Takes a line, and writes what it says.
-fn take_written<K: Sink>(
+fn take_written<K: Sink, L: Ledger>(
     alloc: Global,
     limit: u64,
     state: &mut JobState,
     line: &Line,
     out: &mut K,
+    steps: &mut Steps<L>,
 ) -> Result<(), JobFault>
+    requires limit { limit ≤ MAX_LIMIT }
     requires kept { IsKeptAt state.old.stage }
     ensures kept { IfOk result (λ u. IsKeptAt state.new.stage) }
     ensures fed { OnOk result (FedLine limit state.old state.new line.now (K.held out.old) (K.held out.new)) }
     ensures front { OnErr result ((e : Ending) (rs : List LineOf) →
         GrowsByFront (K.held out.old) (K.held out.new) (printed_all (lines_from_stage limit state.old.stage e (line.now ∷ rs)))) }
     ensures cause { HasJobCause (K.faults out.old) (K.faults out.new) result }
+    ensures spends { OnOk result (Spends (work_from_stage limit state.old.stage) (work_from_stage limit state.new.stage)
+        (line.now ∷ []) [] steps.old steps.new) }
+    ensures most { OnErr result (SpendsAtMost (work_from_stage limit state.old.stage) (line.now ∷ []) steps.old steps.new) }
 {
-    let output_line = state.take(alloc, limit, line)?;
+    let output_line = state.take(alloc, limit, line, steps)?;
     write_output_line(alloc, output_line, out)?;
     Ok(())
 }
 
 /// Takes the next line of the stream, and writes what it says. Whether there was one.
-fn take_next<K: Sink>(
+fn take_next<K: Sink, L: Ledger>(
     alloc: Global,
     limit: u64,
     state: &mut JobState,
     framer: &mut Framer,
     out: &mut K,
+    steps: &mut Steps<L>,
 ) -> Result<bool, JobFault>
+    requires limit { limit ≤ MAX_LIMIT }
     requires kept { IsKeptAt state.old.stage }
     requires within { IsWithin framer.old }
     ensures kept { IfOk result (λ more. IsKeptAt state.new.stage) }
@@ -109,22 +121,27 @@ fn take_next<K: Sink>(
     ensures within { IsWithin framer.new }
     ensures bytes { framer.new.bytes ≡ framer.old.bytes }
     ensures ended { framer.new.ended ≡ framer.old.ended }
+    ensures spends { OnOk result (Spends (work_from_stage limit state.old.stage) (work_from_stage limit state.new.stage)
+        (left framer.old) (left framer.new) steps.old steps.new) }
+    ensures most { OnErr result (SpendsAtMost (work_from_stage limit state.old.stage) (left framer.old) steps.old steps.new) }
 {
     let Some(line) = framer.next_line(alloc)? else {
         return Ok(false);
     };
-    take_written(alloc, limit, state, &line, out)?;
+    take_written(alloc, limit, state, &line, out, steps)?;
     Ok(true)
 }
 
 /// Takes all lines of the stream that are closed or known to be too long, and writes what each says.
-fn feed_lines<K: Sink>(
+fn feed_lines<K: Sink, L: Ledger>(
     alloc: Global,
     limit: u64,
     state: &mut JobState,
     framer: &mut Framer,
     out: &mut K,
+    steps: &mut Steps<L>,
 ) -> Result<(), JobFault>
+    requires limit { limit ≤ MAX_LIMIT }
     requires kept { IsKeptAt state.old.stage }
     requires within { IsWithin framer.old }
     ensures kept { IfOk result (λ u. IsKeptAt state.new.stage) }
@@ -136,9 +153,12 @@ fn feed_lines<K: Sink>(
     ensures within { IsWithin framer.new }
     ensures bytes { framer.new.bytes ≡ framer.old.bytes }
     ensures ended { framer.new.ended ≡ framer.old.ended }
+    ensures spends { OnOk result (Spends (work_from_stage limit state.old.stage) (work_from_stage limit state.new.stage)
+        (left framer.old) (left framer.new) steps.old steps.new) }
+    ensures most { OnErr result (SpendsAtMost (work_from_stage limit state.old.stage) (left framer.old) steps.old steps.new) }
 {
     'lines: loop {
-        let more = take_next(alloc, limit, state, framer, out)?;
+        let more = take_next(alloc, limit, state, framer, out, steps)?;
         if !more {
             return Ok(());
         }
@@ -165,14 +185,16 @@ fn end_state<K: Sink>(
 }
 
 /// Takes a piece of a text, and writes what it settles.
-pub fn take_piece<K: Sink>(
+pub fn take_piece<K: Sink, L: Ledger>(
     alloc: Global,
     limit: u64,
     state: &mut JobState,
     framer: &mut Framer,
     piece: &[u8],
     out: &mut K,
+    steps: &mut Steps<L>,
 ) -> Result<(), JobFault>
+    requires limit { limit ≤ MAX_LIMIT }
     requires stands { Stands limit framer.old.bytes state.old }
     requires stream { IsRead framer.old }
     requires size { length framer.old.bytes + length piece.now ≤ most_bytes }
@@ -182,47 +204,54 @@ pub fn take_piece<K: Sink>(
     ensures wrote { OnOk result (GrewByPiece (K.held out.old) (K.held out.new) limit framer.old.bytes piece.now) }
     ensures front { OnErr result (GrewByFrontOfPiece (K.held out.old) (K.held out.new) limit framer.old.bytes piece.now) }
     ensures cause { HasJobCause (K.faults out.old) (K.faults out.new) result }
+    ensures steps { SpendsOnText steps.old steps.new (work_at limit framer.old.bytes) (work_at limit (framer.old.bytes ++ piece.now)) }
 {
     framer.feed(alloc, piece)?;
-    feed_lines(alloc, limit, state, framer, out)
+    feed_lines(alloc, limit, state, framer, out, steps)
 }
 
 /// Takes the last piece that is used of a text with more bytes, and writes what it settles and that the text is too long.
-pub fn take_last<K: Sink>(
+pub fn take_last<K: Sink, L: Ledger>(
     alloc: Global,
     limit: u64,
     state: &mut JobState,
     framer: &mut Framer,
     piece: &[u8],
     out: &mut K,
+    steps: &mut Steps<L>,
 ) -> Result<Status, JobFault>
+    requires limit { limit ≤ MAX_LIMIT }
     requires stands { Stands limit framer.old.bytes state.old }
     requires stream { IsRead framer.old }
     requires size { length framer.old.bytes + length piece.now ≤ most_bytes }
     ensures status { IfOk result (λ s. s ≡ status_of (written_lines limit Over (settled (framer.old.bytes ++ piece.now)))) }
     ensures writes { Writes K.held K.faults out.old out.new
         (written_at More limit framer.old.bytes) (written_at Over limit (framer.old.bytes ++ piece.now)) result }
+    ensures steps { SpendsOnText steps.old steps.new (work_at limit framer.old.bytes) (work_at limit (framer.old.bytes ++ piece.now)) }
 {
-    take_piece(alloc, limit, state, framer, piece, out)?;
+    take_piece(alloc, limit, state, framer, piece, out, steps)?;
     end_state(alloc, state, true, out)
 }
 
 /// Takes the end of a text, and writes the rest of the output.
-pub fn take_text_end<K: Sink>(
+pub fn take_text_end<K: Sink, L: Ledger>(
     alloc: Global,
     limit: u64,
     state: &mut JobState,
     framer: &mut Framer,
     out: &mut K,
+    steps: &mut Steps<L>,
 ) -> Result<Status, JobFault>
+    requires limit { limit ≤ MAX_LIMIT }
     requires stands { Stands limit framer.old.bytes state.old }
     requires stream { IsRead framer.old }
     requires size { length framer.old.bytes ≤ most_bytes }
     ensures status { IfOk result (λ s. s ≡ end_of framer.old.bytes limit) }
     ensures writes { Writes K.held K.faults out.old out.new
         (written_at More limit framer.old.bytes) (output framer.old.bytes limit) result }
+    ensures steps { SpendsOnText steps.old steps.new (work_at limit framer.old.bytes) (bound_of framer.old.bytes limit) }
 {
     framer.finish();
-    feed_lines(alloc, limit, state, framer, out)?;
+    feed_lines(alloc, limit, state, framer, out, steps)?;
     end_state(alloc, state, false, out)
 }

@@ -35,10 +35,11 @@ impl Model for Job {
 impl Job {
     ghost use Rattle.std.specs.Prelude.{◌≡◌, ◌≤◌, ◌+◌, ◌++◌, [], true, false, Ok, IfOk, length};
     ghost use Rattle.mm_lines.specs.Lines.{most_bytes};
-    ghost use Rattle.mm_job.specs.Calls.{Writes};
+    ghost use Rattle.mm_job.specs.Calls.{SpendsOnText, Writes};
     ghost use Rattle.mm_job.specs.Jobs.{goes_on, progress, with_piece};
     ghost use Rattle.mm_job.specs.Output.{Over, end_of, output, settled_output};
     ghost use Rattle.mm_job.specs.State.Standing.{status_over, written_at};
+    ghost use Rattle.mm_job.specs.Work.{bound_of, settled_work};
     ghost use Rattle.mm_job.specs.declared.progress.Progress.TheVariants.{Ended, More};
 
     /// A job with no text so far, with this limit on sizes. It takes no memory yet.
@@ -57,11 +58,12 @@ impl Job {
     }
 
     /// Takes a piece that is used as a whole.
-    fn feed_all<K: Sink>(
+    fn feed_all<K: Sink, L: Ledger>(
         &mut self,
         alloc: Global,
         piece: &[u8],
         out: &mut K,
+        steps: &mut Steps<L>,
     ) -> Result<Progress, JobFault>
         requires live { self.old.live ≡ true }
         requires size { length self.old.text + length piece.now ≤ most_bytes }
@@ -71,6 +73,7 @@ impl Job {
         ensures live { self.new.live ≡ goes_on result }
         ensures writes { Writes K.held K.faults out.old out.new
             (settled_output self.old.text self.old.limit) (settled_output (self.old.text ++ piece.now) self.old.limit) result }
+        ensures steps { SpendsOnText steps.old steps.new (settled_work self.old.text self.old.limit) (settled_work (self.old.text ++ piece.now) self.old.limit) }
     {
         self.live = false;
         take_piece(
@@ -80,6 +83,7 @@ impl Job {
             &mut self.framer,
             piece,
             out,
+            steps,
         )?;
         if is_refused(self.state.status) {
             return Ok(Progress::Ended(Status::Refused));
@@ -90,11 +94,12 @@ impl Job {
     }
 
     /// Takes the last piece that is used of a text with more bytes.
-    fn feed_last<K: Sink>(
+    fn feed_last<K: Sink, L: Ledger>(
         &mut self,
         alloc: Global,
         piece: &[u8],
         out: &mut K,
+        steps: &mut Steps<L>,
     ) -> Result<Progress, JobFault>
         requires live { self.old.live ≡ true }
         requires size { length self.old.text + length piece.now ≤ most_bytes }
@@ -103,6 +108,7 @@ impl Job {
         ensures live { self.new.live ≡ false }
         ensures writes { Writes K.held K.faults out.old out.new
             (settled_output self.old.text self.old.limit) (written_at Over self.old.limit (self.old.text ++ piece.now)) result }
+        ensures steps { SpendsOnText steps.old steps.new (settled_work self.old.text self.old.limit) (settled_work (self.old.text ++ piece.now) self.old.limit) }
     {
         self.live = false;
         let status = take_last(
@@ -112,6 +118,7 @@ impl Job {
             &mut self.framer,
             piece,
             out,
+            steps,
         )?;
         Ok(Progress::Ended(status))
     }
@@ -133,13 +140,14 @@ impl Job {
         ensures live { self.new.live ≡ goes_on result }
         ensures writes { Writes K.held K.faults out.old out.new
             (settled_output self.old.text self.old.limit) (settled_output (with_piece self.old.text piece.now) self.old.limit) result }
-        ensures steps { steps.new ≡ steps.old }
+        ensures steps { SpendsOnText steps.old steps.new
+            (settled_work self.old.text self.old.limit) (settled_work (with_piece self.old.text piece.now) self.old.limit) }
     {
         let room = MOST_BYTES - self.taken;
         if piece.len() > room {
-            self.feed_last(alloc, &piece[..room], out)
+            self.feed_last(alloc, &piece[..room], out, steps)
         } else {
-            self.feed_all(alloc, piece, out)
+            self.feed_all(alloc, piece, out, steps)
         }
     }
 
@@ -156,10 +164,18 @@ impl Job {
         ensures live { self.new.live ≡ false }
         ensures writes { Writes K.held K.faults out.old out.new
             (settled_output self.old.text self.old.limit) (output self.old.text self.old.limit) result }
-        ensures steps { steps.new ≡ steps.old }
+        ensures steps { SpendsOnText steps.old steps.new
+            (settled_work self.old.text self.old.limit) (bound_of self.old.text self.old.limit) }
     {
         self.live = false;
-        take_text_end(alloc, self.limit, &mut self.state, &mut self.framer, out)
+        take_text_end(
+            alloc,
+            self.limit,
+            &mut self.state,
+            &mut self.framer,
+            out,
+            steps,
+        )
     }
 
     /// Whether the job goes on: no call of `feed` on it answered `Ended`, none answered an error, and it was not finished.

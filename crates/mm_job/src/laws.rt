@@ -5,11 +5,16 @@ ghost use Rattle.mm_base.specs.declared.status.Status.{Status};
 ghost use Rattle.mm_job.specs.Jobs.{progress};
 ghost use Rattle.mm_job.specs.Output.{end_of};
 ghost use Rattle.mm_job.specs.declared.progress.Progress.TheVariants.{Ended};
-ghost use Rattle.mm_job.specs.Laws.{Grows, IsFinal, IsRefused};
+ghost use Rattle.mm_job.specs.Laws.{Grows, IsFinal, IsRefused, WorkGrows};
 
 /// What is settled of the output stays, however the text goes on, and when it ends.
 pub fn the_output_grows_with_the_text()
     ensures { (limit : ℕ) (a b : List ℕ) → Grows limit a b }
+{}
+
+/// The work for what is settled never falls as the text goes on, and is within the bound of the text.
+pub fn the_work_grows_with_the_text()
+    ensures { (limit : ℕ) (a b : List ℕ) → WorkGrows limit a b }
 {}
 
 /// Nothing is used after a line that refuses the header.

@@ -7,21 +7,20 @@
 
 mod block;
 mod edit;
+mod editor;
 mod feed;
 mod items;
 mod job;
 mod laws;
 mod output_line;
 mod progress;
-mod session;
 mod stage;
 mod state;
-mod truth;
 
 pub use job::Job;
 pub use laws::{
     a_refused_header_ends_a_job, an_ended_job_is_final, the_output_grows_with_the_text,
-    too_long_a_text_ends_a_job,
+    the_work_grows_with_the_text, too_long_a_text_ends_a_job,
 };
 pub use output_line::OutputLine;
 pub use progress::{JobFault, Progress};

@@ -1,18 +1,21 @@
 //! A job, line by line.
-ghost use Rattle.std.specs.Prelude.{IfOk};
-ghost use Rattle.mm_job.specs.State.Stages.{IsKeptAt, TakesLine};
+ghost use Rattle.std.specs.Prelude.{◌≡◌, ◌≤◌, ◌∷◌, ℕ, List, [], IfOk, OnErr};
+ghost use Rattle.mm_lines.specs.declared.line.Line.{Line as LineOf};
+ghost use Rattle.mm_job.specs.State.Spending.{Spends, SpendsAtMost};
+ghost use Rattle.mm_job.specs.State.Stages.{IsFirst, IsKeptAt, TakesLine, work_from_stage};
 ghost use Rattle.mm_job.specs.declared.stage.Stage.TheVariants as stages;
+ghost use Rattle.mm_nodes.specs.declared.TheConstants.{MAX_LIMIT};
 
 use crate::block::Block;
-use crate::items::take_item_line;
+use crate::editor::{Editor, answer, start};
 use crate::output_line::OutputLine;
-use crate::session::{Session, answer, start};
-use mm_base::NoMemory;
+use mm_base::{NoMemory, Steps};
 use mm_header::{HeaderData, HeaderRules, HeaderState, HeaderStep, take_header_line};
 use mm_job_text::Stop;
 use mm_lines::Line;
 use mm_tree::Tree;
 use std::alloc::Global;
+use std::sync::ledger::Ledger;
 
 /// What was read of a job, by what may come next.
 #[derive(Drop)]
@@ -22,7 +25,7 @@ pub enum Stage {
     /// The query.
     Query(HeaderData, Tree),
     /// An item, or a line of the block that has begun.
-    Items(Session, Option<Block>),
+    Items(Editor, Option<Block>),
     /// Nothing: the header was refused.
     Refused,
 }
@@ -37,15 +40,12 @@ pub struct LineStep {
 }
 
 /// Takes a line of a header.
-fn take_header(
-    alloc: Global,
-    limit: u64,
-    header: HeaderState,
-    line: &Line,
-) -> Result<LineStep, NoMemory>
+fn take_header(alloc: Global, header: HeaderState, line: &Line) -> Result<LineStep, NoMemory>
     requires kept { IsKeptAt (stages.Header header) }
     ensures kept { IfOk result (λ taken. IsKeptAt taken.stage) }
-    ensures step { IfOk result (TakesLine limit (stages.Header header) line.now) }
+    ensures step { IfOk result (λ taken. (limit : ℕ) → TakesLine limit (stages.Header header) line.now taken.output_line taken.stage) }
+    ensures works { IfOk result (λ taken. (limit : ℕ) (rs : List LineOf) →
+        work_from_stage limit (stages.Header header) (line.now ∷ rs) ≡ work_from_stage limit taken.stage rs) }
 {
     match take_header_line(alloc, HeaderRules::of_job(), header, line) {
         Ok(HeaderStep::More(header)) => Ok(LineStep {
@@ -65,23 +65,28 @@ fn take_header(
 }
 
 /// Takes the query line.
-fn take_query(
+fn take_query<L: Ledger>(
     alloc: Global,
     limit: u64,
     header: HeaderData,
     tree: Tree,
     line: &Line,
+    steps: &mut Steps<L>,
 ) -> Result<LineStep, NoMemory>
+    requires limit { limit ≤ MAX_LIMIT }
     requires kept { IsKeptAt (stages.Query header tree) }
     ensures kept { IfOk result (λ taken. IsKeptAt taken.stage) }
-    ensures step { IfOk result (TakesLine limit (stages.Query header tree) line.now) }
+    ensures step { IfOk result (λ taken. TakesLine limit (stages.Query header tree) line.now taken.output_line taken.stage) }
+    ensures spends { IfOk result (λ taken. Spends (work_from_stage limit (stages.Query header tree)) (work_from_stage limit taken.stage)
+        (line.now ∷ []) [] steps.old steps.new) }
+    ensures most { OnErr result (SpendsAtMost (work_from_stage limit (stages.Query header tree)) (line.now ∷ []) steps.old steps.new) }
 {
-    match start(alloc, limit, header, tree, line) {
-        Ok(session) => {
-            let output_line = answer(alloc, &session)?;
+    match start(alloc, limit, header, tree, line, steps) {
+        Ok(editor) => {
+            let output_line = answer(alloc, &editor)?;
             Ok(LineStep {
                 output_line: Some(output_line),
-                stage: Stage::Items(session, None),
+                stage: Stage::Items(editor, None),
             })
         }
         Err(Stop::Refused(refusal)) => Ok(LineStep {
@@ -92,38 +97,29 @@ fn take_query(
     }
 }
 
-/// Takes a line of the items.
-fn take_item(
+/// Takes a line of the header or the query line.
+pub fn take_first_line<L: Ledger>(
     alloc: Global,
     limit: u64,
-    session: Session,
-    block: Option<Block>,
+    stage: Stage,
     line: &Line,
+    steps: &mut Steps<L>,
 ) -> Result<LineStep, NoMemory>
-    requires kept { IsKeptAt (stages.Items session block) }
-    ensures kept { IfOk result (λ taken. IsKeptAt taken.stage) }
-    ensures step { IfOk result (TakesLine limit (stages.Items session block) line.now) }
-{
-    let written_lines = take_item_line(alloc, &session, block, line)?;
-    Ok(LineStep {
-        output_line: written_lines.output_line,
-        stage: Stage::Items(session, written_lines.block),
-    })
-}
-
-/// Takes a line of a job. What is written for all lines from this one on is what is written for it, and then for those after it.
-pub fn take_line(alloc: Global, limit: u64, stage: Stage, line: &Line) -> Result<LineStep, NoMemory>
+    requires limit { limit ≤ MAX_LIMIT }
     requires kept { IsKeptAt stage }
+    requires first { IsFirst stage }
     ensures kept { IfOk result (λ taken. IsKeptAt taken.stage) }
-    ensures step { IfOk result (TakesLine limit stage line.now) }
+    ensures step { IfOk result (λ taken. TakesLine limit stage line.now taken.output_line taken.stage) }
+    ensures spends { IfOk result (λ taken. Spends (work_from_stage limit stage) (work_from_stage limit taken.stage)
+        (line.now ∷ []) [] steps.old steps.new) }
+    ensures most { OnErr result (SpendsAtMost (work_from_stage limit stage) (line.now ∷ []) steps.old steps.new) }
 {
     match stage {
-        Stage::Header(header) => take_header(alloc, limit, header, line),
-        Stage::Query(header, tree) => take_query(alloc, limit, header, tree, line),
-        Stage::Items(session, block) => take_item(alloc, limit, session, block, line),
-        Stage::Refused => Ok(LineStep {
+        Stage::Header(header) => take_header(alloc, header, line),
+        Stage::Query(header, tree) => take_query(alloc, limit, header, tree, line, steps),
+        stage => Ok(LineStep {
             output_line: None,
-            stage: Stage::Refused,
+            stage,
         }),
     }
 }

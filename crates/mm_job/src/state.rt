@@ -1,23 +1,26 @@
 //! How far a job has come, and what the lines that it wrote come to.
-ghost use Rattle.std.specs.Prelude.{◌≡◌, ◌++◌, ◌∷◌, ℕ, List, [], None, IfOk};
-ghost use Rattle.mm_lines.specs.declared.line.Line.{Line as LineOf};
+ghost use Rattle.std.specs.Prelude.{◌≡◌, ◌≤◌, ◌∷◌, ℕ, [], None, IfOk, OnErr};
 ghost use Rattle.mm_job.specs.State.Blocks.{lines_from_block, written};
 ghost use Rattle.mm_job.specs.State.JobStates.{after_output_line, come_to, end_by, is_refused, status_at};
 ghost use Rattle.mm_job.specs.Header.{Session};
-ghost use Rattle.mm_job.specs.Output.{Ending, cut_short, is_refusal};
-ghost use Rattle.mm_job.specs.State.Stages.{IsKeptAt, lines_from_stage};
+ghost use Rattle.mm_job.specs.Output.{cut_short, is_refusal};
+ghost use Rattle.mm_job.specs.State.Spending.{Spends, SpendsAtMost};
+ghost use Rattle.mm_job.specs.State.Stages.{IsFirst, IsKeptAt, TakesLine, lines_from_stage, work_from_stage};
+ghost use Rattle.mm_nodes.specs.declared.TheConstants.{MAX_LIMIT};
 ghost use Rattle.mm_header.specs.declared.state.HeaderState.TheVariants as headers;
 ghost use Rattle.mm_job.specs.declared.stage.Stage.TheVariants as stages;
 
 use crate::block::Block;
 use crate::output_line::OutputLine;
-use crate::stage::{LineStep, Stage, take_line};
-use mm_base::{NoMemory, Status};
+use crate::items::take_item;
+use crate::stage::{LineStep, Stage, take_first_line};
+use mm_base::{NoMemory, Status, Steps};
 use mm_header::HeaderState;
 use mm_job_text::Refusal;
 use mm_lines::Line;
 use std::alloc::Global;
 use std::mem;
+use std::sync::ledger::Ledger;
 
 /// What was read of a job, and what the lines that it wrote come to, if it wrote any.
 #[derive(Drop)]
@@ -125,22 +128,71 @@ pub fn last_output_line(stage: &Stage, over: bool) -> Option<OutputLine>
 }
 
 impl JobState {
-    /// Takes a line, and gives the line that it writes. After an `Err` the state is worth nothing more.
-    pub fn take(
+    /// Takes a line of the header or the query line.
+    fn take_first<L: Ledger>(
         &mut self,
         alloc: Global,
         limit: u64,
         line: &Line,
+        steps: &mut Steps<L>,
     ) -> Result<Option<OutputLine>, NoMemory>
-        requires { IsKeptAt self.old.stage }
+        requires limit { limit ≤ MAX_LIMIT }
+        requires kept { IsKeptAt self.old.stage }
+        requires first { IsFirst self.old.stage }
         ensures kept { IfOk result (λ output. IsKeptAt self.new.stage) }
-        ensures step { IfOk result (λ output. (e : Ending) (rs : List LineOf) →
-            lines_from_stage limit self.old.stage e (line.now ∷ rs) ≡ written output ++ lines_from_stage limit self.new.stage e rs) }
-        ensures status { IfOk result (λ output. self.new.status ≡ come_to self.old.status (written output)) }
+        ensures step { IfOk result (λ output. TakesLine limit self.old.stage line.now output self.new.stage) }
+        ensures spends { IfOk result (λ output. Spends (work_from_stage limit self.old.stage) (work_from_stage limit self.new.stage)
+            (line.now ∷ []) [] steps.old steps.new) }
+        ensures most { OnErr result (SpendsAtMost (work_from_stage limit self.old.stage) (line.now ∷ []) steps.old steps.new) }
+        ensures status { IfOk result (λ output. self.new.status ≡ self.old.status) }
     {
         let stage = mem::replace(&mut self.stage, Stage::Refused);
-        let LineStep { output_line, stage } = take_line(alloc, limit, stage, line)?;
+        let LineStep { output_line, stage } = take_first_line(alloc, limit, stage, line, steps)?;
         self.stage = stage;
+        Ok(output_line)
+    }
+
+    /// Takes a line, and gives the line that it writes.
+    fn take_line<L: Ledger>(
+        &mut self,
+        alloc: Global,
+        limit: u64,
+        line: &Line,
+        steps: &mut Steps<L>,
+    ) -> Result<Option<OutputLine>, NoMemory>
+        requires limit { limit ≤ MAX_LIMIT }
+        requires kept { IsKeptAt self.old.stage }
+        ensures kept { IfOk result (λ output. IsKeptAt self.new.stage) }
+        ensures step { IfOk result (λ output. TakesLine limit self.old.stage line.now output self.new.stage) }
+        ensures spends { IfOk result (λ output. Spends (work_from_stage limit self.old.stage) (work_from_stage limit self.new.stage)
+            (line.now ∷ []) [] steps.old steps.new) }
+        ensures most { OnErr result (SpendsAtMost (work_from_stage limit self.old.stage) (line.now ∷ []) steps.old steps.new) }
+        ensures status { IfOk result (λ output. self.new.status ≡ self.old.status) }
+    {
+        match &mut self.stage {
+            Stage::Items(editor, block) => take_item(alloc, editor, block, line, steps),
+            _ => self.take_first(alloc, limit, line, steps),
+        }
+    }
+
+    /// Takes a line, and gives the line that it writes. After an `Err` the state is worth nothing more.
+    pub fn take<L: Ledger>(
+        &mut self,
+        alloc: Global,
+        limit: u64,
+        line: &Line,
+        steps: &mut Steps<L>,
+    ) -> Result<Option<OutputLine>, NoMemory>
+        requires limit { limit ≤ MAX_LIMIT }
+        requires kept { IsKeptAt self.old.stage }
+        ensures kept { IfOk result (λ output. IsKeptAt self.new.stage) }
+        ensures step { IfOk result (λ output. TakesLine limit self.old.stage line.now output self.new.stage) }
+        ensures spends { IfOk result (λ output. Spends (work_from_stage limit self.old.stage) (work_from_stage limit self.new.stage)
+            (line.now ∷ []) [] steps.old steps.new) }
+        ensures most { OnErr result (SpendsAtMost (work_from_stage limit self.old.stage) (line.now ∷ []) steps.old steps.new) }
+        ensures status { IfOk result (λ output. self.new.status ≡ come_to self.old.status (written output)) }
+    {
+        let output_line = self.take_line(alloc, limit, line, steps)?;
         self.status = after_step(self.status, &output_line);
         Ok(output_line)
     }

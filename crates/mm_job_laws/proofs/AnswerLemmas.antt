@@ -3,18 +3,15 @@ use Rattle.std.proofs.Common.{◌≡◌, ◌↔◌, inl, inr, ℕ, Bool, true, f
 use Rattle.std.specs.Prelude.{Ok, Err}
 use Rattle.std.specs.declared.result.Result.{Result}
 use Rattle.mm_field.specs.declared.Field.{Field}
-use Rattle.mm_formula.specs.Scope.{slotted}
-use Rattle.mm_formula.specs.Syntax.{Syntax}
 use Rattle.mm_header.specs.Header.{Parts, parts, verdict_refusal}
-use Rattle.mm_header.specs.Queries.{Query, query_line}
+use Rattle.mm_header.specs.Queries.{query_line}
 use Rattle.mm_header.specs.Queries.Question.{Spelled}
 use Rattle.mm_header.specs.Rules.{job_rules}
-use Rattle.mm_job.specs.Header.{Session, built, header, header_lines, query_part, started}
+use Rattle.mm_job.specs.Header.{Session, header, header_lines, is_over_limit, query_part, started}
 use Rattle.mm_job.specs.Items.{items}
-use Rattle.mm_job.specs.Meaning.{answer_line, answer_of, least_line, truth_line}
-use Rattle.mm_job.specs.NotBuilt.{is_built, may_be_over, over_limit}
+use Rattle.mm_job.specs.Meaning.{answer_line, least_line, truth_line}
 use Rattle.mm_job.specs.Output.{Ended, ending, lines_after_header, lines_of_items, output_lines, written_lines}
-use Rattle.mm_job_laws.specs.AnswerLaws.{AnswerLinesAreAnswers, Gives, HeadersGiveSessions, HoldsOn, IsAnswerOf, IsLeast, IsSound, IsTruth, OutputBeginsWithAnswer, Spells}
+use Rattle.mm_job_laws.specs.AnswerLaws.{AnswerLinesAreAnswers, Gives, HeadersGiveSessions, HoldsOn, IsLeast, IsSound, IsTruth, OutputBeginsWithAnswer, Spells}
 use Rattle.mm_job_laws.specs.HeaderLaws.{given_of, session_of}
 use Rattle.mm_job_laws.proofs.AgreementLemmas.{same_exactly_where_they_agree}
 use Rattle.mm_job_laws.proofs.QueryLemmas.{whole_spells}
@@ -25,9 +22,12 @@ use Rattle.mm_job_text.specs.declared.refusal.Refusal.{Refusal}
 use Rattle.mm_job_text.specs.declared.refusal.Refusal.TheVariants as refusal
 use Rattle.mm_lines.specs.Lines.{lines}
 use Rattle.mm_lines.specs.declared.line.Line.{Line}
+use Rattle.mm_logic.specs.Formula.{Formula}
 use Rattle.mm_logic.specs.Least.{least}
 use Rattle.mm_logic.specs.Marks.{unmarked}
 use Rattle.mm_logic.specs.Meaning.{holds}
+use Rattle.mm_logic.specs.StateSize.{Query}
+use Rattle.mm_logic.specs.StateSize.Query.{Decide, Least}
 use Rattle.mm_logic.specs.Tree.{IsValid, size}
 use Rattle.mm_logic_laws.proofs.LeastLemmas.{least-set_meant}
 use Rattle.mm_logic_laws.proofs.MeaningLemmas.{meaning_decided}
@@ -39,28 +39,20 @@ use Rattle.mm_tree.specs.NamedTree.{Tree, shape, weights}
 
 -- ---- answers
 
-truth_is_meant : (f : Field) (F : Syntax) (tree : Tree) (b : Bool) → (b ≡ true) ↔ HoldsOn f F tree → IsTruth f F tree (truth_line b)
+truth_is_meant : (f : Field) (F : Formula) (tree : Tree) (b : Bool) → (b ≡ true) ↔ HoldsOn f F tree → IsTruth f F tree (truth_line b)
 truth_is_meant f F tree true h = inl (h.0 refl, refl)
 truth_is_meant f F tree false h = inr ((λ holds. let e : false ≡ true = h.1 holds in cc), refl)
 
-least_is_meant : (f : Field) (X : List ℕ) (F : Syntax) (tree : Tree) (o : Option (List Bool))
-    → least f (slotted (X ∷ []) F) (shape tree) (weights tree) ≡ o → IsValid f (shape tree) → IsLeast f X F tree (least_line tree o)
-least_is_meant f X F tree None e ok =
-    inr ((least-set_meant f (shape tree) ok (slotted (X ∷ []) F) (weights tree)).1.0 e, refl)
-least_is_meant f X F tree (Some A) e ok =
-    inl (A, ((least-set_meant f (shape tree) ok (slotted (X ∷ []) F) (weights tree)).0 A).0 e, refl)
-
-answer_of_is : (f : Field) (sought : Option (List ℕ)) (F : Syntax) (tree : Tree) → IsValid f (shape tree) →
-    IsAnswerOf f sought F tree (answer_of f sought F tree)
-answer_of_is f None F tree ok =
-    truth_is_meant f F tree (holds f (slotted [] F) (shape tree) (unmarked (size (shape tree))))
-    (meaning_decided f (shape tree) ok (slotted [] F) (unmarked (size (shape tree))))
-answer_of_is f (Some X) F tree ok =
-    least_is_meant f X F tree (least f (slotted (X ∷ []) F) (shape tree) (weights tree)) refl ok
+least_is_meant : (f : Field) (F : Formula) (tree : Tree) (o : Option (List Bool)) → least f F (shape tree) (weights tree) ≡ o → IsValid f (shape tree)
+    → IsLeast f F tree (least_line tree o)
+least_is_meant f F tree None e ok = inr ((least-set_meant f (shape tree) ok F (weights tree)).1.0 e, refl)
+least_is_meant f F tree (Some A) e ok = inl (A, ((least-set_meant f (shape tree) ok F (weights tree)).0 A).0 e, refl)
 
 pub lines_are_answers : AnswerLinesAreAnswers
 unfolding answer_line
-lines_are_answers f query tree ok = answer_of_is f query.sought query.formula tree ok
+lines_are_answers f (Decide F) tree ok =
+    truth_is_meant f F tree (holds f F (shape tree) (unmarked (size (shape tree)))) (meaning_decided f (shape tree) ok F (unmarked (size (shape tree))))
+lines_are_answers f (Least F) tree ok = least_is_meant f F tree (least f F (shape tree) (weights tree)) refl ok
 
 -- ---- headers
 
@@ -75,8 +67,8 @@ record Started (limit : ℕ) (p : Parts) (r : Line) (rest others : List Line) (s
 abbrev after_line : ℕ → Parts → List Line → Result Query Refusal → Reading Session
 after_line limit p rest res =
     and_then
-    (and_then (now res rest) (λ query rest. and_then (now (built query) rest) (λ u rest. and_then (now (verdict_refusal (compared p.0.f (given_of p) p.1)) rest) (λ u.
-    now (Ok (session_of limit p query)))))) (λ s. now (started s))
+    (and_then (now res rest) (λ query rest. and_then (now (verdict_refusal (compared p.0.f (given_of p) p.1)) rest) (λ u.
+    now (Ok (session_of limit p query))))) (λ s. now (started s))
 
 same_read : {A : Type 0} (x y : A) (rest others : List Line) → Read x rest ≡ Read y others → (x ≡ y) × (rest ≡ others)
 same_read x y rest others e = (cc, cc)
@@ -84,24 +76,22 @@ same_read x y rest others e = (cc, cc)
 started_is : (limit : ℕ) (p : Parts) (r : Line) (rest others : List Line) (s : Session) (res : Result Query Refusal) → whole (query_line Spelled) r ≡ res →
     after_line limit p rest res ≡ Read s others → Started limit p r rest others s
 started_is limit p r rest others s (Err e) q h = let x : Refused e ≡ Read s others = h in absurd (cc)
-started_is limit p r rest others s (Ok query) q h = go (is_built query) (compared p.0.f (given_of p) p.1) refl h
+started_is limit p r rest others s (Ok query) q h = go (compared p.0.f (given_of p) p.1) refl h
   where
     begun : (small : Bool) → compared p.0.f (given_of p) p.1 ≡ verdict.Same →
-        now (require small over_limit >>= λ u. Ok (session_of limit p query)) rest ≡ Read s others → Started limit p r rest others s
-    begun false e h = let x : Refused over_limit ≡ Read s others = h in absurd (cc)
+        now (require small refusal.States >>= λ u. Ok (session_of limit p query)) rest ≡ Read s others → Started limit p r rest others s
+    begun false e h = let x : Refused refusal.States ≡ Read s others = h in absurd (cc)
     begun true e h =
         let same = same_read (session_of limit p query) s rest others h in
         record { query = query; read = q; same = e; session = sym same.0; rest_is = sym same.1 }
 
-    go : (b : Bool) (v : Verdict) → compared p.0.f (given_of p) p.1 ≡ v →
-        and_then
-        (and_then (now (require b refusal.NotBuilt) rest) (λ u rest. and_then (now (verdict_refusal v) rest) (λ u. now (Ok (session_of limit p query)))))
-        (λ s. now (started s)) ≡ Read s others → Started limit p r rest others s
-    go false v e h = let x : Refused refusal.NotBuilt ≡ Read s others = h in absurd (cc)
-    go true (verdict.Elements name) e h = let x : Refused (refusal.Elements name) ≡ Read s others = h in absurd (cc)
-    go true (verdict.Given i) e h = let x : Refused (refusal.Given i) ≡ Read s others = h in absurd (cc)
-    go true (verdict.Present j) e h = let x : Refused (refusal.Present j) ≡ Read s others = h in absurd (cc)
-    go true verdict.Same e h = begun (not (may_be_over limit query p.1)) e h
+    go : (v : Verdict) → compared p.0.f (given_of p) p.1 ≡ v →
+        and_then (and_then (now (verdict_refusal v) rest) (λ u. now (Ok (session_of limit p query)))) (λ s. now (started s)) ≡ Read s others
+        → Started limit p r rest others s
+    go (verdict.Elements name) e h = let x : Refused (refusal.Elements name) ≡ Read s others = h in absurd (cc)
+    go (verdict.Given i) e h = let x : Refused (refusal.Given i) ≡ Read s others = h in absurd (cc)
+    go (verdict.Present j) e h = let x : Refused (refusal.Present j) ≡ Read s others = h in absurd (cc)
+    go verdict.Same e h = begun (not (is_over_limit (session_of limit p query) p.1)) e h
 
 gives : (limit : ℕ) (rs : List Line) (p : Parts) (r : Line) (rest others : List Line) (s : Session) → parts job_rules rs ≡ Read p (r ∷ rest) →
     Started limit p r rest others s → Gives limit rs others s × IsSound s
@@ -120,7 +110,12 @@ gives limit rs p r rest others s e h =
         sound = sound;
         agreeing = same.0 h.same;
       },
-      subst (λ (t : Session). IsSound t) (sym h.session) (record { tree = sound.tree; scoped = spelled.scoped }),
+      subst (λ (t : Session). IsSound t) (sym h.session) 
+      (record {
+        ops = sound.ops;
+        tree = sound.tree;
+        query = record { sought = spelled.sought; formula = spelled.formula; scoped = spelled.scoped; asks = spelled.asks };
+      }),
     )
 
 from_parts : (limit : ℕ) (rs rest : List Line) (s : Session) (reading : Reading Parts) → parts job_rules rs ≡ reading →

@@ -1,6 +1,9 @@
 -- Items keep a session sound, and a check answers whether the given rows agree with the present tree.
-use Rattle.std.proofs.Common.{◌≡◌, ◌↔◌, inl, inr, ℕ, Bool, true, false, List, [], ◌∷◌, ◌++◌, length, Option, Some, None, refl, sym, ap, subst, ◌∙◌}
-use Rattle.std.specs.Prelude.{codes, IfOk, Ok, Err, if◌then◌else◌}
+use Rattle.std.proofs.Common.{◌≡◌, ◌↔◌, inl, inr, ℕ, ◌+◌, ◌≤◌, ℤ, nat_abs, Bool, true, false, ◌||◌, List, [], ◌∷◌, ◌++◌, length, Option, Some, None, refl, sym, ap, subst, ◌∙◌}
+use Rattle.std.specs.Prelude.{codes, nat_le, IfOk, Ok, Err, if◌then◌else◌}
+use Rattle.std.proofs.lemmas.Bool.{leb-true}
+use Rattle.std.proofs.lemmas.List.Folds.{list_any-append}
+use Rattle.std.proofs.lemmas.Option.{none-some}
 use Rattle.std.specs.declared.result.Result.{Result}
 use Rattle.std.specs.List.{IsDistinct}
 use Rattle.std.specs.Str.{bytes_eq}
@@ -9,24 +12,32 @@ use Rattle.std.proofs.lemmas.List.Elements.{All-nil}
 use Rattle.mm_field.specs.declared.Field.{Field}
 use Rattle.mm_field.specs.Vectors.{AreVectors, IsVector}
 use Rattle.mm_header.specs.Rules.{job_rules}
-use Rattle.mm_job.specs.Edits.{Applied, Changed, Compared, Denied, Reply, block, changed, check_end, check_names, check_rows, checked, compared_or, is_same, line_edit, replace_edit, replace_fields, single, weight_edit, weight_fields}
-use Rattle.mm_job.specs.Header.{Session}
+use Rattle.mm_edit.specs.Edits.{Applied}
+use Rattle.mm_job.specs.Edits.{Changed, Compared, Denied, Reply, another_weight, block, changed, check_end, check_names, check_rows, checked, compared_or, exchange_refusal, exchanged, is_same, light_fields, line_edit, read_whole, replace_edit, replace_fields, replaced_path, replacement, single, weight_edit, weight_fields}
+use Rattle.mm_job.proofs.EditLemmas.{no_memory}
+use Rattle.mm_job.specs.Header.{Session, is_over_limit}
 use Rattle.mm_job.specs.Items.{Items}
-use Rattle.mm_job.specs.NotBuilt.{may_be_over, over_limit}
+use Rattle.mm_job.specs.Meaning.{answer_line}
 use Rattle.mm_job.specs.Output.{Ended, Ending, after_reply, answered, ending, lines_after_header, lines_of_items, output_lines, reply_line, written_lines}
 use Rattle.mm_job.specs.declared.output_line.OutputLine.{OutputLine}
+use Rattle.mm_job.specs.declared.output_line.OutputLine.TheVariants.{Refuses, Says}
 use Rattle.mm_job_laws.specs.Agreement.{Agrees}
-use Rattle.mm_job_laws.specs.AnswerLaws.{ChecksAreAnswered, ComesTo, IsCheck, IsComparison, IsSound, ItemsKeepSessionsSound, OutputAnswersChecks}
+use Rattle.mm_job_laws.specs.AnswerLaws.{ChecksAreAnswered, ComesTo, IsCheck, IsComparison, IsEdited, IsReplacement, IsSound, IsWeight, ItemsKeepSessionsSound, OutputAnswersChecks, RefusalsChangeNothing, ReplacementsAreAnswered, WeightsAreAnswered}
 use Rattle.mm_job_laws.proofs.AgreementLemmas.{same_exactly_where_they_agree}
-use Rattle.mm_job_laws.proofs.AnswerLemmas.{headers_give_sessions}
-use Rattle.mm_job_laws.proofs.QueryLemmas.{other_word}
+use Rattle.mm_job_laws.proofs.AnswerLemmas.{headers_give_sessions, lines_are_answers}
+use Rattle.mm_job_laws.proofs.RefusalLemmas.{is_over, is_within}
+use Rattle.mm_job_laws.proofs.TreeLemmas.{tree_is_valid}
+use Rattle.mm_job_laws.proofs.QueryLemmas.{other_word, whole_line}
 use Rattle.mm_job_laws.proofs.SoundLemmas.{AreDifferent, names_stay_different, rows_stay_vectors}
 use Rattle.mm_job_text.specs.Arguments.{begins, too_long}
 use Rattle.mm_job_text.specs.HeaderLines.{elements_line, row_line}
-use Rattle.mm_job_text.specs.Readers.{each, line, refused_or}
+use Rattle.mm_job_text.specs.Checks.{◌>>=◌, ◌>>◌}
+use Rattle.mm_job_text.specs.Readers.{Reading, Read, Refused, Short, each, line, refused_or}
+use Rattle.mm_job_text.specs.TreeLines.{tree_lines}
+use Rattle.mm_job_text.specs.declared.refusal.Limit.TheVariants as limit
 use Rattle.mm_job_text.specs.declared.refusal.Refusal.{Refusal}
 use Rattle.mm_job_text.specs.declared.refusal.Refusal.TheVariants as refusal
-use Rattle.mm_job_text.proofs.ReadingLemmas.{IfRead, anything, each_has, if_ok, line_has, read_has, then_has}
+use Rattle.mm_job_text.proofs.ReadingLemmas.{IfRead, anything, each_has, if_found, if_ok, if_require, if_unless, line_has, read_has, then_has}
 use Rattle.mm_lines.specs.LineBytes.{bytes_of}
 use Rattle.mm_lines.specs.Lines.{lines}
 use Rattle.mm_lines.specs.Tokens.{tokens}
@@ -36,7 +47,14 @@ use Rattle.mm_present.specs.declared.comparison.Verdict.{Verdict}
 use Rattle.mm_present.specs.declared.comparison.Verdict.TheVariants as verdict
 use Rattle.mm_tree.proofs.ElementLemmas.{different_elements}
 use Rattle.mm_tree.proofs.BuilderLemmas.{none_distinct}
-use Rattle.mm_tree.specs.ValidTree.{IsValidTree}
+use Rattle.mm_tree.proofs.TreeLemmas.{element_is_leaf, valid_exchange, valid_weight}
+use Rattle.mm_tree.specs.NamedTree.{Tree, element_names, is_one_of, leaf_names, nodes}
+use Rattle.mm_tree.specs.NamedTree.Tree.{Elem, Void, Join}
+use Rattle.mm_tree.specs.Paths.{Path, first_path, going, path_to, with_node, with_weight}
+use Rattle.mm_tree.specs.Replacing.{replace_fault}
+use Rattle.mm_tree.specs.declared.replace.ReplaceFault.{ReplaceFault}
+use Rattle.mm_tree.specs.declared.replace.ReplaceFault.TheVariants as faults
+use Rattle.mm_tree.specs.ValidTree.{IsValidTree, most_weight}
 
 -- ---- the tree after an edit
 
@@ -44,30 +62,74 @@ use Rattle.mm_tree.specs.ValidTree.{IsValidTree}
 abbrev IsValidAfter : Session → Applied → Type 0
 IsValidAfter s a = IsValidTree s.f a.tree
 
-weight_keeps : (s : Session) (r : Line) → IfOk (weight_edit s r) (λ a. IsValidAfter s a)
+-- the line of a weight gives a light one
+light_weight : (r : Line) → IfOk (light_fields r) (λ w. nat_abs w.1 ≤ most_weight)
+unfolding light_fields
+light_weight r =
+    if_ok (λ w. Unit {0}) (λ w. nat_abs w.1 ≤ most_weight) (weight_fields r) _ (anything (weight_fields r)) (λ w t.
+    if_require (λ (v : List ℕ × ℤ). nat_abs v.1 ≤ most_weight) (nat_le (nat_abs w.1) most_weight) (refusal.Over limit.Weight r.number) _ (λ light.
+    leb-true _ _ light))
+
+another_keeps : (f : Field) (tree : Tree) (name : List ℕ) (weight : ℤ) → nat_abs weight ≤ most_weight → IsValidTree f tree →
+    IfOk (another_weight tree name weight) (λ a. IsValidTree f a.tree)
+unfolding another_weight
+another_keeps f tree name weight light valid =
+    if_require (λ (a : Applied). IsValidTree f a.tree) (is_one_of name (element_names tree)) (refusal.Unknown name) _ (λ element.
+    if_found (λ (a : Applied). IsValidTree f a.tree) (path_to name tree) (refusal.Unknown name) _ (λ path at. valid_weight f name weight tree light valid))
+
+weight_keeps : (s : Session) (r : Line) → IsSound s → IfOk (weight_edit s r) (λ a. IsValidAfter s a)
 unfolding weight_edit
-weight_keeps s r = if_ok (λ w. Unit {0}) (λ a. IsValidAfter s a) (weight_fields r) _ (anything (weight_fields r)) (λ w t. tt)
+weight_keeps s r h =
+    if_ok (λ w. nat_abs w.1 ≤ most_weight) (λ a. IsValidAfter s a) (light_fields r) _ (light_weight r) (λ w light. another_keeps s.f s.tree w.0 w.1 light h.tree)
 
-replace_keeps : (s : Session) (r : Line) (rs : List Line) → IfOk (replace_edit s r rs) (λ a. IsValidAfter s a)
+if_whole : {A : Type 0} (P : A → Type 0) (reading : Reading A) → IfRead P reading → IfOk (read_whole reading) P
+if_whole P (Read x rest) h = h
+if_whole P (Refused e) h = tt
+if_whole P Short h = tt
+
+no_exchange_fault : (n : ℕ) (o : Option ReplaceFault) → (o ≡ Some faults.NoMemory → ⊥) → exchange_refusal n o ≡ None → o ≡ None
+no_exchange_fault n None never h = refl
+no_exchange_fault n (Some (faults.Boundary a b)) never h = absurd (none-some _ (sym h))
+no_exchange_fault n (Some (faults.NameTaken x)) never h = absurd (none-some _ (sym h))
+no_exchange_fault n (Some faults.TooManyLeaves) never h = absurd (none-some _ (sym h))
+no_exchange_fault n (Some faults.TooDeep) never h = absurd (none-some _ (sym h))
+no_exchange_fault n (Some faults.NoMemory) never h = absurd (never refl)
+
+exchange_keeps : (f : Field) (tree new : Tree) (path : Path) (n : ℕ) → IsValidTree f tree → IsValidTree f new → IfOk (exchanged tree path new n) (λ a. IsValidTree f a.tree)
+unfolding exchanged
+exchange_keeps f tree new path n valid fits =
+    if_unless (λ (a : Applied). IsValidTree f a.tree) (exchange_refusal n (replace_fault tree path new)) _ (λ none.
+    valid_exchange f tree new path valid fits (no_exchange_fault n (replace_fault tree path new) (no_memory tree new path) none))
+
+replacement_keeps : (s : Session) (name : List ℕ) (up : ℕ) (rs : List Line) → IsSound s → IfOk (replacement s name up [] rs) (λ a. IsValidAfter s a)
+unfolding replacement
+replacement_keeps s name up rs h =
+    if_ok (λ p. Unit {0}) (λ a. IsValidAfter s a) (replaced_path s.tree name up) _ (anything (replaced_path s.tree name up)) (λ path t.
+    if_ok (λ (new : Tree × ℕ). IsValidTree s.f new.0) (λ a. IsValidAfter s a) (read_whole (tree_lines job_rules.leaves s.f s.ops [] rs)) _
+    (if_whole (λ (new : Tree × ℕ). IsValidTree s.f new.0) (tree_lines job_rules.leaves s.f s.ops [] rs) (tree_is_valid job_rules.leaves s.f s.ops rs h.ops))
+    (λ new valid. exchange_keeps s.f s.tree new.0 path new.1 h.tree valid))
+
+replace_keeps : (s : Session) (r : Line) (rs : List Line) → IsSound s → IfOk (replace_edit s r rs) (λ a. IsValidAfter s a)
 unfolding replace_edit
-replace_keeps s r rs = if_ok (λ w. Unit {0}) (λ a. IsValidAfter s a) (replace_fields r) _ (anything (replace_fields r)) (λ w t. tt)
+replace_keeps s r rs h =
+    if_ok (λ w. Unit {0}) (λ a. IsValidAfter s a) (replace_fields r) _ (anything (replace_fields r)) (λ w t. replacement_keeps s w.0 w.1 rs h)
 
-line_keeps : (s : Session) (r : Line) → IfOk (line_edit s r) (λ a. IsValidAfter s a)
+line_keeps : (s : Session) (r : Line) → IsSound s → IfOk (line_edit s r) (λ a. IsValidAfter s a)
 unfolding line_edit
-line_keeps s r = go (too_long r.text r.number) (begins (codes "weight") r)
+line_keeps s r h = go (too_long r.text r.number) (begins (codes "weight") r)
   where
     go : (o : Option Refusal) (weight : Bool) → IfOk (refused_or o (if weight then weight_edit s r else Err (refusal.Syntax r.number))) (λ a. IsValidAfter s a)
-    go None true = weight_keeps s r
+    go None true = weight_keeps s r h
     go None false = tt
     go (Some e) weight = tt
 
 changed_keeps : (s : Session) (res : Result Applied Refusal) → IsSound s → IfOk res (λ a. IsValidAfter s a) → IsSound (after_reply s (changed s res))
 changed_keeps s (Err e) h k = h
-changed_keeps s (Ok a) h k = go (may_be_over s.limit s.query a.tree)
+changed_keeps s (Ok a) h k = go (is_over_limit s a.tree)
   where
-    go : (over : Bool) → IsSound (after_reply s (if over then Denied over_limit else Changed (record s { tree = a.tree })))
+    go : (over : Bool) → IsSound (after_reply s (if over then Denied refusal.States else Changed (record s { tree = a.tree })))
     go true = h
-    go false = record { tree = k; scoped = h.scoped }
+    go false = record { ops = h.ops; tree = k; query = h.query }
 
 compared_keeps : (s : Session) (res : Result Bool Refusal) → after_reply s (compared_or res) ≡ s
 compared_keeps s (Ok same) = refl
@@ -75,14 +137,14 @@ compared_keeps s (Err e) = refl
 
 single_keeps : (s : Session) (r : Line) → IsSound s → IsSound (after_reply s (single s r))
 unfolding single
-single_keeps s r h = changed_keeps s (line_edit s r) h (line_keeps s r)
+single_keeps s r h = changed_keeps s (line_edit s r) h (line_keeps s r h)
 
 block_keeps : (s : Session) (r : Line) (rs : List Line) → IsSound s → IsSound (after_reply s (block s r rs))
 unfolding block
 block_keeps s r rs h = go (begins (codes "replace") r)
   where
     go : (b : Bool) → IsSound (after_reply s (if b then changed s (replace_edit s r rs) else compared_or (checked s r rs)))
-    go true = changed_keeps s (replace_edit s r rs) h (replace_keeps s r rs)
+    go true = changed_keeps s (replace_edit s r rs) h (replace_keeps s r rs h)
     go false = subst (λ (t : Session). IsSound t) (sym (compared_keeps s (checked s r rs))) h
 
 keeps : {s t : Session} {i j : Items} → IsSound s → ComesTo s i t j → IsSound t
@@ -92,6 +154,84 @@ keeps h (ComesTo.after_block {t = t} {r = r} {rs = rs} c) = block_keeps t r rs (
 
 pub items_keep_sessions_sound : ItemsKeepSessionsSound
 items_keep_sessions_sound s t i j h c = keeps h c
+
+-- ---- edits
+
+-- an edit that gives a tree is answered
+edit_answered : (s : Session) (a : Applied) → IsSound s → IsValidTree s.f a.tree → IsEdited s a.tree (changed s (Ok a))
+edit_answered s a h valid = go (is_over_limit s a.tree) refl
+  where
+    go : (over : Bool) → is_over_limit s a.tree ≡ over → IsEdited s a.tree (changed s (Ok a))
+    go true p =
+        let c = ap (λ (over : Bool). if over then Denied refusal.States else Changed (record s { tree = a.tree })) p in
+        inl (is_over s a.tree p, ap reply_line c, ap (after_reply s) c)
+    go false p =
+        let c = ap (λ (over : Bool). if over then Denied refusal.States else Changed (record s { tree = a.tree })) p in
+        inr (is_within s a.tree p, (answer_line s.f s.query a.tree, lines_are_answers s.f s.query a.tree valid.valid_shape, ap reply_line c), ap (after_reply s) c)
+
+edits_are_answered : (s : Session) (a : Applied) (edit : Result Applied Refusal) → edit ≡ Ok a → IsSound s → IfOk edit (λ a. IsValidAfter s a)
+    → IsEdited s a.tree (changed s edit)
+edits_are_answered s a edit is h valid =
+    subst (λ (x : Result Applied Refusal). IsEdited s a.tree (changed s x)) (sym is)
+    (edit_answered s a h (subst (λ (x : Result Applied Refusal). IfOk x (λ a. IsValidAfter s a)) is valid))
+
+-- a leaf has a path
+leaf_here : (name n : List ℕ) (b : Bool) → bytes_eq name n ≡ b → (b || false) ≡ true → (path : Path) × ((if b then Some [] else None) ≡ Some path)
+leaf_here name n true e h = ([], refl)
+leaf_here name n false e h = absurd (let x : false ≡ true = h in cc)
+
+right_path : (o p : Option Path) (path : Path) → p ≡ Some path → (path : Path) × (first_path (going true o) (going false p) ≡ Some path)
+right_path None p path h = (false ∷ path, ap (going false) h)
+right_path (Some left) p path h = (true ∷ left, refl)
+
+join_path : (o p : Option Path) (l r : Bool) → (l || r) ≡ true → (l ≡ true → (path : Path) × (o ≡ Some path)) → (r ≡ true → (path : Path) × (p ≡ Some path))
+    → (path : Path) × (first_path (going true o) (going false p) ≡ Some path)
+join_path o p true r h left right = let at = left refl in (true ∷ at.0, ap (λ (q : Option Path). first_path (going true q) (going false p)) at.1)
+join_path o p false true h left right = let at = right refl in right_path o p at.0 at.1
+join_path o p false false h left right = absurd (let x : false ≡ true = h in cc)
+
+leaf_has_path : (name : List ℕ) (tree : Tree) → is_one_of name (leaf_names tree) ≡ true → (path : Path) × (path_to name tree ≡ Some path)
+unfolding leaf_names path_to
+leaf_has_path name (Elem n vec weight) h = leaf_here name n (bytes_eq name n) refl h
+leaf_has_path name (Void n t) h = leaf_here name n (bytes_eq name n) refl h
+leaf_has_path name (Join n op left right) h =
+    join_path (path_to name left) (path_to name right) (is_one_of name (leaf_names left)) (is_one_of name (leaf_names right))
+    (sym (list_any-append (bytes_eq name) (leaf_names left) (leaf_names right)) ∙ h) (leaf_has_path name left) (leaf_has_path name right)
+
+-- an element has a path
+element_path : (name : List ℕ) (tree : Tree) → is_one_of name (element_names tree) ≡ true → (path : Path) × (path_to name tree ≡ Some path)
+element_path name tree h = leaf_has_path name tree (element_is_leaf name tree h)
+
+weight_is : (s : Session) (r : Line) (name : List ℕ) (weight : ℤ) (path : Path) → IsWeight s r name weight → path_to name s.tree ≡ Some path
+    → line_edit s r ≡ Ok (record { tree = with_weight name weight s.tree; cost = length path + 1 })
+unfolding line_edit weight_edit another_weight
+weight_is s r name weight path h at =
+    rw (whole_line r.text r.number (codes "weight") h.opened, h.opened, h.fields) (rw (h.element, at) refl)
+
+pub weights_are_answered : WeightsAreAnswered
+unfolding single
+weights_are_answered s r name weight sound h =
+    let p = element_path name s.tree h.element in
+    edits_are_answered s (record { tree = with_weight name weight s.tree; cost = length p.0 + 1 }) (line_edit s r)
+    (weight_is s r name weight p.0 h p.1) sound (line_keeps s r sound)
+
+replacement_is : (s : Session) (r : Line) (rs : List Line) (path : Path) (new : Tree) → IsReplacement s r rs path new
+    → replace_edit s r rs ≡ Ok (record { tree = with_node s.tree path new; cost = length path + nodes new })
+unfolding replace_edit replacement replaced_path exchanged
+replacement_is s r rs path new h = rw h.fields (rw (h.leaf, h.node) (rw h.read (rw h.fits refl)))
+
+pub replacements_are_answered : ReplacementsAreAnswered
+unfolding block
+replacements_are_answered s r rs path new sound h =
+    rw h.opened
+    (edits_are_answered s (record { tree = with_node s.tree path new; cost = length path + nodes new }) (replace_edit s r rs)
+    (replacement_is s r rs path new h) sound (replace_keeps s r rs sound))
+
+pub refusals_change_nothing : RefusalsChangeNothing
+refusals_change_nothing s (Changed new) why h =
+    let e : Says (answer_line new.f new.query new.tree) ≡ Refuses why = h in absurd (cc)
+refusals_change_nothing s (Compared same) why h = refl
+refusals_change_nothing s (Denied e) why h = refl
 
 -- ---- checks
 

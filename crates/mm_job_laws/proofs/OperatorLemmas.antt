@@ -1,7 +1,7 @@
 -- The operators that are read are valid.
 use Rattle.std.proofs.Common.{All, ℕ, ◌<◌, ◌≡◌, Bool, true, false, ◌&&◌, Option, Some, None, List, [], ◌∷◌, ◌++◌, length, map, refl, subst}
 use Rattle.std.specs.Prelude.{codes, nat_le, IfOk, Ok, if◌then◌else◌}
-use Rattle.std.specs.List.{AllByRecursion, list_all}
+use Rattle.std.specs.List.{list_all}
 use Rattle.std.specs.Str.{bytes_eq}
 use Rattle.std.proofs.lemmas.List.Elements.{All-nil}
 use Rattle.std.proofs.lemmas.Option.{same_Some}
@@ -19,6 +19,7 @@ use Rattle.mm_ops.specs.Tables.{OperatorList, op_named, refusal_of}
 use Rattle.mm_ops.specs.declared.op.OpFault.{OpFault}
 use Rattle.mm_ops.specs.declared.op.OpFault.TheVariants.{Bound, Shape, Dependent}
 use Rattle.mm_ops.proofs.ValidOps.{valid_ops_exactly}
+use Rattle.mm_job_laws.specs.HeaderLaws.{AreValidOps}
 use Rattle.mm_job_text.specs.Arguments.{args}
 use Rattle.mm_space.specs.DigitTexts.{is_digit, digit_of, digits_of, vectors_of}
 use Rattle.mm_job_text.specs.OperatorLines.{OperatorTokens, operator_tokens, third_matrix, shown, operator_fields, third_or_units, operator_of, operator_refusal, table_refusal, operator_line, op_line, HasThirdDigits, HasDigits}
@@ -87,10 +88,6 @@ operator_is_valid f w h e =
     (valid_ops_exactly f (operator_of w) h.first h.second (third_or_units_are f w.t3 w.c w.g3 h.third)).0 e
 
 -- ---- the operators
-
--- each operator is valid
-abbrev pub AreValidOps : Field → OperatorList → Type 0
-AreValidOps f ops = AllByRecursion (λ (entry : List ℕ × OpValue). IsValidOp f entry.1.op) ops
 
 line_is_valid : (version : Format) (f : Field) (r : Line) → IfOk (operator_line version f r) (λ (named : List ℕ × OpValue). IsValidOp f named.1.op)
 unfolding operator_line

@@ -18,7 +18,7 @@ use Rattle.mm_formula_text.proofs.ReadsAllLemmas.{run_reads}
 use Rattle.mm_formula_text.proofs.ReadsOnlyLemmas.{run_derives}
 use Rattle.mm_formula_text.proofs.TextLemmas.{sorted}
 use Rattle.mm_header.proofs.FormulaLemmas.{derived_formula}
-use Rattle.mm_header.specs.Queries.{Query, first_of, formula_of, least_query, most_formula, query_line, query_of, scope_refusal, set_variable_of, spelled_query}
+use Rattle.mm_header.specs.Queries.{first_of, formula_of, least_query, most_formula, query_for, query_line, query_of, scope_refusal, set_variable_of, spelled_query}
 use Rattle.mm_header.specs.Queries.Question.{Spelled}
 use Rattle.mm_job_laws.specs.AnswerLaws.{QueryLinesGiveWhatTheySpell, Seeks, Spells, formula_text}
 use Rattle.mm_job_text.specs.Arguments.{args, begins, first_is, too_long}
@@ -33,6 +33,7 @@ use Rattle.mm_lines.specs.Tokens.{tokens as line_tokens}
 use Rattle.mm_lines.specs.declared.line.LineText.{LineText}
 use Rattle.mm_lines.specs.declared.line.LineText.TheVariants.{Whole, TooLong}
 use Rattle.mm_lines.specs.declared.line.Line.{Line}
+use Rattle.mm_logic.specs.StateSize.{Query}
 
 -- ---- what a query line gives
 
@@ -58,10 +59,11 @@ no_fault n F sought h = no_fault_left n _ _ _ h
 
 -- what is read of a text, where this variable is sought
 record IsOf (sought : Option (List ℕ)) (text : List ℕ) (query : Query) : Type 0 where
-  pub sought_is : query.sought ≡ sought
+  pub formula : Syntax
   pub short : length text ≤ most_formula
-  pub derived : IsTextOf query.formula text
-  pub scoped : IsScoped query.formula query.sought
+  pub derived : IsTextOf formula text
+  pub scoped : IsScoped formula sought
+  pub asks : query ≡ query_for sought formula
 
 query_is_of : (n : ℕ) (sought : Option (List ℕ)) (text : List ℕ) → list_all is_set (outermost sought) ≡ true → IfOk (query_of n sought text) (λ query. IsOf sought text query)
 unfolding query_of
@@ -73,10 +75,11 @@ query_is_of n sought text set =
     if_unless P (scope_refusal n (scope_fault F sought)) _ (λ none.
     let derived = formula_derives text F found in
     record {
-      sought_is = refl;
+      formula = F;
       short = leb-true _ _ short;
       derived = derived;
       scoped = scoped F sought (sorted derived.derived) set (no_fault n F sought none);
+      asks = refl;
     }))))
 
 if_weaker : {A : Type 0} (P Q : A → Type 0) (r : Result A Refusal) → ((x : A) → P x → Q x) → IfOk r P → IfOk r Q
@@ -84,12 +87,8 @@ if_weaker P Q (Ok x) k h = k x h
 if_weaker P Q (Err e) k h = tt
 
 spells_of : (r : Line) (sought : Option (List ℕ)) (query : Query) → Seeks r sought → IsOf sought (formula_text r sought) query → Spells r query
-spells_of r sought query seeks h = record {
-  seeks = subst (λ (o : Option (List ℕ)). Seeks r o) (sym h.sought_is) seeks;
-  short = subst (λ (o : Option (List ℕ)). length (formula_text r o) ≤ most_formula) (sym h.sought_is) h.short;
-  derived = subst (λ (o : Option (List ℕ)). IsTextOf query.formula (formula_text r o)) (sym h.sought_is) h.derived;
-  scoped = h.scoped;
-}
+spells_of r sought query seeks h =
+    record { sought = sought; formula = h.formula; seeks = seeks; short = h.short; derived = h.derived; scoped = h.scoped; asks = h.asks }
 
 text_spells : (r : Line) (sought : Option (List ℕ)) → list_all is_set (outermost sought) ≡ true → Seeks r sought →
     IfOk (query_of r.number sought (formula_text r sought)) (λ query. Spells r query)
@@ -157,7 +156,7 @@ scoped_without_fault F sought h =
     without_fault _ _ _ (ap (λ (vs : List (List ℕ)). slice_get vs 0) h.bound) (le-ltb _ _ h.in_scope) (le-ltb _ _ h.size)
 
 text_gives : (n : ℕ) (sought : Option (List ℕ)) (text : List ℕ) (F : Syntax) → length text ≤ most_formula → IsTextOf F text → IsScoped F sought →
-    query_of n sought text ≡ Ok (record { sought = sought; formula = F })
+    query_of n sought text ≡ Ok (query_for sought F)
 unfolding query_of
 text_gives n sought text F short derived scoped =
     rw (some_text text F derived, le-leb _ _ short, derived_formula F text derived, scoped_without_fault F sought scoped) refl
@@ -166,7 +165,7 @@ pub other_word : (a b : List ℕ) (ts : List (List ℕ)) → bytes_eq a b ≡ fa
 other_word a b [] e h = refl
 other_word a b (t ∷ ts) e h = ap (bytes_eq a) (sym (same_bytes b t h)) ∙ e
 
-whole_line : (t : LineText) (n : ℕ) (word : List ℕ) → first_is word (line_tokens (text_bytes t)) ≡ true → too_long t n ≡ None
+pub whole_line : (t : LineText) (n : ℕ) (word : List ℕ) → first_is word (line_tokens (text_bytes t)) ≡ true → too_long t n ≡ None
 unfolding line_tokens
 whole_line (Whole bytes) n word h = refl
 whole_line TooLong n word h = let x : false ≡ true = h in absurd (cc)
@@ -179,7 +178,7 @@ first_set v h = go (is_set v) refl h
     go false p h = let x : false ≡ true = sym (rw p refl) ∙ h in absurd (cc)
 
 spelled_gives : (r : Line) (sought : Option (List ℕ)) (F : Syntax) → Seeks r sought → length (formula_text r sought) ≤ most_formula →
-    IsTextOf F (formula_text r sought) → IsScoped F sought → whole (query_line Spelled) r ≡ Ok (record { sought = sought; formula = F })
+    IsTextOf F (formula_text r sought) → IsScoped F sought → whole (query_line Spelled) r ≡ Ok (query_for sought F)
 unfolding spelled_query least_query
 spelled_gives r None F seeks short derived scoped =
     rw (whole_line r.text r.number (codes "decide") seeks, seeks) (text_gives r.number None (rest_of 1 (bytes_of r)) F short derived scoped)
@@ -190,5 +189,5 @@ spelled_gives r (Some v) F seeks short derived scoped =
 pub lines_give_what_they_spell : QueryLinesGiveWhatTheySpell
 lines_give_what_they_spell r query = (
   whole_spells r query,
-  (λ h. spelled_gives r query.sought query.formula h.seeks h.short h.derived h.scoped),
+  (λ h. spelled_gives r h.sought h.formula h.seeks h.short h.derived h.scoped ∙ ap (λ (q : Query). Ok q) (sym h.asks)),
 )

@@ -23,8 +23,8 @@ use Rattle.mm_job_text.specs.TreeLines.{tree_lines}
 use Rattle.mm_job_text.specs.declared.format.Format.{Format}
 use Rattle.mm_job_text.specs.declared.refusal.Limit.TheVariants as limit
 use Rattle.mm_job_text.specs.declared.refusal.Refusal.TheVariants as refusal
-use Rattle.mm_job_laws.specs.HeaderLaws.{AreSound, LinesAreSound}
-use Rattle.mm_job_laws.proofs.OperatorLemmas.{AreValidOps, digits_are, ops_stay_valid}
+use Rattle.mm_job_laws.specs.HeaderLaws.{AreSound, AreValidOps, LinesAreSound}
+use Rattle.mm_job_laws.proofs.OperatorLemmas.{digits_are, ops_stay_valid}
 use Rattle.mm_job_text.proofs.ReadingLemmas.{IfRead, if_require, if_found, if_ok, each_has, line_has, then_has, read_has, anything}
 use Rattle.mm_job_laws.proofs.TreeLemmas.{tree_is_valid}
 
@@ -68,7 +68,7 @@ sound_tree : (rules : HeaderRules) (g : HeaderValue) → AreDifferent g.names �
 unfolding tree_part_of
 sound_tree rules g d v ops rs =
     then_has (λ (read : Tree × ℕ). IsValidTree g.f read.0) (λ p. AreSound p) (tree_lines rules.leaves g.f g.ops [] rs) _ (tree_is_valid rules.leaves g.f g.ops rs ops)
-    (λ tree rest valid. record { different = d; vectors = v; tree = valid })
+    (λ tree rest valid. record { different = d; vectors = v; ops = ops; tree = valid })
 
 sound_ops : (rules : HeaderRules) (g : HeaderValue) → AreDifferent g.names → AreVectors g.f (length g.names) g.rows → AreValidOps g.f g.ops → (rs : List Line) →
     IfRead (λ p. AreSound p) (ops_part rules g rs)

@@ -30,7 +30,8 @@ use Rattle.mm_job_text.specs.declared.refusal.Limit.TheVariants as limit
 use Rattle.mm_job_text.specs.declared.refusal.Refusal.TheVariants as refusal
 use Rattle.mm_job_text.specs.declared.tree_lines.ElementLine.{ElementLine}
 use Rattle.mm_job_text.specs.declared.tree_lines.VoidLine.{VoidLine}
-use Rattle.mm_job_laws.proofs.OperatorLemmas.{AreValidOps, named_is_valid}
+use Rattle.mm_job_laws.specs.HeaderLaws.{AreValidOps}
+use Rattle.mm_job_laws.proofs.OperatorLemmas.{named_is_valid}
 use Rattle.mm_job_text.proofs.ReadingLemmas.{IfRead, if_require, if_found, if_unless, if_ok, each_has, line_has, then_has}
 use Rattle.mm_space.proofs.DigitTextLemmas.{text_of_vector}
 

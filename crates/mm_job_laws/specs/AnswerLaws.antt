@@ -1,43 +1,50 @@
 -- What the lines of a job's output mean: the answer to the query, and whether given rows agree with the tree.
-use Rattle.std.specs.Prelude.{◌≡◌, ◌↔◌, ◌⊎◌, ◌≤◌, ℕ, ◌+◌, Bool, true, false, List, [], ◌∷◌, ◌++◌, length, map, codes, Option, Some, None, Ok}
+use Rattle.std.specs.Prelude.{◌≡◌, ◌↔◌, ◌⊎◌, ◌≤◌, ℕ, ◌+◌, ℤ, Bool, true, false, List, [], ◌∷◌, ◌++◌, length, map, codes, Option, Some, None, Ok}
 use Rattle.std.specs.List.{IsDistinct}
 use Rattle.std.specs.Str.{bytes_eq}
 use Rattle.mm_field.specs.declared.Field.{Field}
 use Rattle.mm_field.specs.Vectors.{AreVectors, IsWithin}
-use Rattle.mm_formula.specs.Scope.{IsScoped, slotted}
+use Rattle.mm_formula.specs.Scope.{IsScoped}
 use Rattle.mm_formula.specs.Syntax.{Syntax}
 use Rattle.mm_formula.specs.Variables.{is_var}
 use Rattle.mm_formula_text.specs.Grammar.{IsTextOf}
 use Rattle.mm_header.specs.Header.{Parts, parts}
-use Rattle.mm_header.specs.Queries.{Query, first_of, most_formula, query_line}
+use Rattle.mm_header.specs.Queries.{first_of, most_formula, query_for, query_line}
 use Rattle.mm_header.specs.Queries.Question.{Spelled}
 use Rattle.mm_header.specs.Rules.{job_rules}
-use Rattle.mm_job.specs.Edits.{block, check_fields, check_names, single}
+use Rattle.mm_job.specs.Edits.{Reply, block, check_fields, check_names, light_fields, replace_fields, single}
 use Rattle.mm_job.specs.Header.{Session, header}
 use Rattle.mm_job.specs.Items.{Items, Single, Block, items}
 use Rattle.mm_job.specs.Meaning.{answer_line, least_line}
-use Rattle.mm_job.specs.NotBuilt.{is_built}
 use Rattle.mm_job.specs.Output.{after_reply, output_lines, reply_line}
 use Rattle.mm_job.specs.declared.output_line.OutputLine.{OutputLine}
 use Rattle.mm_job.specs.declared.output_line.OutputLine.TheVariants.{Says, Refuses}
 use Rattle.mm_job_laws.specs.Agreement.{AreAmong, Agrees}
-use Rattle.mm_job_laws.specs.HeaderLaws.{AreSound, given_of, session_of}
+use Rattle.mm_job_laws.specs.HeaderLaws.{AreSound, AreValidOps, given_of, session_of}
 use Rattle.mm_job_text.specs.Arguments.{args, begins}
 use Rattle.mm_job_text.specs.Readers.{Read, whole}
+use Rattle.mm_job_text.specs.TreeLines.{tree_lines}
+use Rattle.mm_job_text.specs.declared.refusal.Refusal.{Refusal}
 use Rattle.mm_job_text.specs.declared.refusal.Refusal.TheVariants as refusal
 use Rattle.mm_lines.specs.LineBytes.{bytes_of}
 use Rattle.mm_lines.specs.Lines.{lines}
 use Rattle.mm_lines.specs.Tokens.{rest_of}
 use Rattle.mm_lines.specs.declared.line.Line.{Line}
+use Rattle.mm_logic.specs.Formula.{Formula}
 use Rattle.mm_logic.specs.Least.{IsLeastSet, Satisfies}
 use Rattle.mm_logic.specs.Marks.{unmarked}
 use Rattle.mm_logic.specs.Meaning.{Holds}
+use Rattle.mm_logic.specs.StateSize.{IsOver, Query}
+use Rattle.mm_logic.specs.StateSize.Query.{Decide, Least}
 use Rattle.mm_logic.specs.Tree.{IsValid, size}
 use Rattle.mm_matrix.specs.Outside.{IsFirstOutside}
 use Rattle.mm_present.specs.Comparing.{Named, compared, in_order, present_rows}
 use Rattle.mm_present.specs.declared.comparison.Verdict.{Verdict}
 use Rattle.mm_present.specs.declared.comparison.Verdict.TheVariants as verdict
-use Rattle.mm_tree.specs.NamedTree.{Tree, shape, element_names, is_one_of, weights}
+use Rattle.mm_tree.specs.NamedTree.{Tree, shape, element_names, is_one_of, leaf_names, weights}
+use Rattle.mm_tree.specs.Paths.{Path, with_node, with_weight}
+use Rattle.mm_tree.specs.Places.{path_above}
+use Rattle.mm_tree.specs.Replacing.{replace_fault}
 use Rattle.mm_tree.specs.ValidTree.{IsValidTree}
 
 -- ---- the query of a line
@@ -52,12 +59,16 @@ abbrev pub formula_text : Line → Option (List ℕ) → List ℕ
 formula_text r None = rest_of 1 (bytes_of r)
 formula_text r (Some X) = rest_of 2 (bytes_of r)
 
--- A line spells a query: the grammar derives its formula from the text, which has at most 4096 bytes, and it is scoped.
+-- A line spells a query, by the set variable that it seeks, if any, and a formula: the grammar derives the formula from the text, which
+-- has at most 4096 bytes, and it is scoped.
 pub record Spells (r : Line) (query : Query) : Type 0 where
-  pub seeks : Seeks r query.sought
-  pub short : length (formula_text r query.sought) ≤ most_formula
-  pub derived : IsTextOf query.formula (formula_text r query.sought)
-  pub scoped : IsScoped query.formula query.sought
+  pub sought : Option (List ℕ)
+  pub formula : Syntax
+  pub seeks : Seeks r sought
+  pub short : length (formula_text r sought) ≤ most_formula
+  pub derived : IsTextOf formula (formula_text r sought)
+  pub scoped : IsScoped formula sought
+  pub asks : query ≡ query_for sought formula
 
 -- A line gives the query that it spells, and else none.
 abbrev pub QueryLinesGiveWhatTheySpell : Type 0
@@ -66,26 +77,23 @@ QueryLinesGiveWhatTheySpell = (r : Line) (query : Query) → (whole (query_line 
 -- ---- answers
 
 -- the formula holds on the matrix of the tree
-abbrev pub HoldsOn : Field → Syntax → Tree → Type 0
-HoldsOn f F tree = Holds f (slotted [] F) (shape tree) (unmarked (size (shape tree)))
+abbrev pub HoldsOn : Field → Formula → Tree → Type 0
+HoldsOn f F tree = Holds f F (shape tree) (unmarked (size (shape tree)))
 
 -- `true` where the formula holds, and else `false`
-abbrev pub IsTruth : Field → Syntax → Tree → List ℕ → Type 0
+abbrev pub IsTruth : Field → Formula → Tree → List ℕ → Type 0
 IsTruth f F tree line = (HoldsOn f F tree × (line ≡ codes "true")) ⊎ ((HoldsOn f F tree → ⊥) × (line ≡ codes "false"))
 
--- `least` with the weight and the names, in leaf order, of the least set X that satisfies the formula, and `none` where no set does
-abbrev pub IsLeast : Field → List ℕ → Syntax → Tree → List ℕ → Type 0
-IsLeast f X F tree line =
-    ((A : List Bool) × IsLeastSet f (slotted (X ∷ []) F) (shape tree) (weights tree) A × (line ≡ least_line tree (Some A)))
-    ⊎ (((A : List Bool) → length A ≡ size (shape tree) → Satisfies f (slotted (X ∷ []) F) (shape tree) A → ⊥) × (line ≡ codes "none"))
-
-abbrev pub IsAnswerOf : Field → Option (List ℕ) → Syntax → Tree → List ℕ → Type 0
-IsAnswerOf f None F tree line = IsTruth f F tree line
-IsAnswerOf f (Some X) F tree line = IsLeast f X F tree line
+-- `least` with the weight and the names, in leaf order, of the least set that satisfies the formula, and `none` where no set does
+abbrev pub IsLeast : Field → Formula → Tree → List ℕ → Type 0
+IsLeast f F tree line =
+    ((A : List Bool) × IsLeastSet f F (shape tree) (weights tree) A × (line ≡ least_line tree (Some A)))
+    ⊎ (((A : List Bool) → length A ≡ size (shape tree) → Satisfies f F (shape tree) A → ⊥) × (line ≡ codes "none"))
 
 -- The line answers the query on the matrix of the tree.
 abbrev pub IsAnswer : Field → Query → Tree → List ℕ → Type 0
-IsAnswer f query tree line = IsAnswerOf f query.sought query.formula tree line
+IsAnswer f (Decide F) tree line = IsTruth f F tree line
+IsAnswer f (Least F) tree line = IsLeast f F tree line
 
 -- The line that is written for a query is its answer, for each query and each tree with a valid shape.
 abbrev pub AnswerLinesAreAnswers : Type 0
@@ -93,10 +101,18 @@ AnswerLinesAreAnswers = (f : Field) (query : Query) (tree : Tree) → IsValid f 
 
 -- ---- headers that are read
 
--- A session is sound where its tree is valid over its field, and its query scoped.
+-- A query is that of a formula in which each variable has a binder, or is the one that is sought, within the limits.
+pub record IsOfScoped (query : Query) : Type 0 where
+  pub sought : Option (List ℕ)
+  pub formula : Syntax
+  pub scoped : IsScoped formula sought
+  pub asks : query ≡ query_for sought formula
+
+-- A session is sound where its operators and its tree are valid over its field, and its query is that of a scoped formula.
 pub record IsSound (s : Session) : Type 0 where
+  pub ops : AreValidOps s.f s.ops
   pub tree : IsValidTree s.f s.tree
-  pub scoped : IsScoped s.query.formula s.query.sought
+  pub query : IsOfScoped s.query
 
 -- The lines of a header, up to the others, give a session: those before the query are not faulty and give its field, its operators
 -- and its tree, the next one spells its query, and the given rows agree with the tree.
@@ -183,7 +199,7 @@ IsRefusalFor (verdict.Present j) output = output ≡ Refuses (refusal.Present j)
 abbrev pub OutputNamesTheDifference : Type 0
 OutputNamesTheDifference =
     (limit : ℕ) (text : List ℕ) (rest : List Line) (r : Line) (p : Parts) (query : Query) → parts job_rules (lines text) ≡ Read p (r ∷ rest)
-    → whole (query_line Spelled) r ≡ Ok query → is_built query ≡ true
+    → whole (query_line Spelled) r ≡ Ok query
     → (v : Verdict) → IsMeant p.0.f (given_of p) p.1 v → IsRefusalFor v (output_lines text limit)
 
 -- ---- items
@@ -198,6 +214,50 @@ pub data ComesTo : Session → Items → Session → Items → Type 0 where
 -- Sessions stay sound, whatever the items are.
 abbrev pub ItemsKeepSessionsSound : Type 0
 ItemsKeepSessionsSound = (s t : Session) (i j : Items) → IsSound s → ComesTo s i t j → IsSound t
+
+-- What comes of an edit that gives this tree: `states` where the tree is over the limit, and then the session stays; else the answer for
+-- the tree, and the session has it.
+abbrev pub IsEdited : Session → Tree → Reply → Type 0
+IsEdited s tree reply =
+    (IsOver s.f s.query (shape tree) s.limit × (reply_line reply ≡ Refuses refusal.States) × (after_reply s reply ≡ s))
+    ⊎ ((IsOver s.f s.query (shape tree) s.limit → ⊥)
+    × ((line : List ℕ) × IsAnswer s.f s.query tree line × (reply_line reply ≡ Says line))
+    × (after_reply s reply ≡ record s { tree = tree }))
+
+-- A line `weight` of the right form gives an element of the tree another weight.
+pub record IsWeight (s : Session) (r : Line) (name : List ℕ) (weight : ℤ) : Type 0 where
+  pub opened : begins (codes "weight") r ≡ true
+  pub fields : light_fields r ≡ Ok (name, weight)
+  pub element : is_one_of name (element_names s.tree) ≡ true
+
+-- Another weight of an element is answered.
+abbrev pub WeightsAreAnswered : Type 0
+WeightsAreAnswered =
+    (s : Session) (r : Line) (name : List ℕ) (weight : ℤ) → IsSound s → IsWeight s r name weight
+    → IsEdited s (with_weight name weight s.tree) (single s r)
+
+-- The lines of a block `replace`, none of them faulty, give a new tree for the node at the end of a path, whose place it may take.
+pub record IsReplacement (s : Session) (r : Line) (rs : List Line) (path : Path) (new : Tree) : Type 0 where
+  pub name : List ℕ
+  pub up : ℕ
+  pub number : ℕ
+  pub rest : List Line
+  pub opened : begins (codes "replace") r ≡ true
+  pub fields : replace_fields r ≡ Ok (name, up)
+  pub leaf : is_one_of name (leaf_names s.tree) ≡ true
+  pub node : path_above name up s.tree ≡ Some path
+  pub read : tree_lines job_rules.leaves s.f s.ops [] rs ≡ Read (new, number) rest
+  pub fits : replace_fault s.tree path new ≡ None
+
+-- A new subtree is answered.
+abbrev pub ReplacementsAreAnswered : Type 0
+ReplacementsAreAnswered =
+    (s : Session) (r : Line) (rs : List Line) (path : Path) (new : Tree) → IsSound s → IsReplacement s r rs path new
+    → IsEdited s (with_node s.tree path new) (block s r rs)
+
+-- An item that is refused leaves the session as it is.
+abbrev pub RefusalsChangeNothing : Type 0
+RefusalsChangeNothing = (s : Session) (reply : Reply) (why : Refusal) → reply_line reply ≡ Refuses why → after_reply s reply ≡ s
 
 -- The lines of a block `check`, none of them faulty, give these names and rows.
 pub record IsCheck (s : Session) (r : Line) (rs : List Line) (given : Named) : Type 0 where

@@ -1,6 +1,7 @@
 //! The laws of what is printed: queries, answers and comparisons stand on the relations of the logic and of linear algebra.
 ghost use Rattle.mm_job_laws.specs.AnswerLaws.{AnswerLinesAreAnswers, ChecksAreAnswered, HeadersGiveSessions, ItemsKeepSessionsSound, QueryLinesGiveWhatTheySpell};
 ghost use Rattle.mm_job_laws.specs.AnswerLaws.{OutputAnswersChecks, OutputBeginsWithAnswer, OutputNamesTheDifference, VerdictsAreMeant};
+ghost use Rattle.mm_job_laws.specs.AnswerLaws.{RefusalsChangeNothing, ReplacementsAreAnswered, WeightsAreAnswered};
 
 /// A query line gives exactly the query that it spells: the grammar derives its formula from the text of the line, and the formula
 /// is scoped and within its limits.
@@ -37,6 +38,21 @@ pub fn the_output_names_the_difference()
 /// Sessions stay sound, whatever the items are.
 pub fn items_keep_sessions_sound()
     ensures { ItemsKeepSessionsSound }
+{}
+
+/// Another weight of an element is answered for the tree after it, or refused as `states` exactly where that tree is over the limit.
+pub fn weights_are_answered()
+    ensures { WeightsAreAnswered }
+{}
+
+/// A new subtree is answered for the tree after it, or refused as `states` exactly where that tree is over the limit.
+pub fn replacements_are_answered()
+    ensures { ReplacementsAreAnswered }
+{}
+
+/// An item that is refused leaves the session as it is.
+pub fn refusals_change_nothing()
+    ensures { RefusalsChangeNothing }
 {}
 
 /// A check answers whether the given rows agree with the present tree.

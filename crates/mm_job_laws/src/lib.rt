@@ -3,15 +3,16 @@
 #![tactic(auto)]
 
 ghost use Rattle.mm_job_laws.specs.Agreement.{SameExactlyWhereTheyAgree};
-ghost use Rattle.mm_job_laws.specs.HeaderLaws.{LinesAreSound, OutputRefusesRowsExactly, RowsAreRefusedExactly};
+ghost use Rattle.mm_job_laws.specs.HeaderLaws.{LinesAreSound, OutputRefusesRowsExactly, OutputRefusesSizeExactly, RowsAreRefusedExactly};
 
 mod answers;
 mod trees;
 
 pub use answers::{
     answer_lines_are_answers, checks_are_answered, headers_give_sessions,
-    items_keep_sessions_sound, query_lines_give_what_they_spell, the_output_answers_checks,
-    the_output_begins_with_the_answer, the_output_names_the_difference, verdicts_are_meant,
+    items_keep_sessions_sound, query_lines_give_what_they_spell, refusals_change_nothing,
+    replacements_are_answered, the_output_answers_checks, the_output_begins_with_the_answer,
+    the_output_names_the_difference, verdicts_are_meant, weights_are_answered,
 };
 pub use trees::{elements_are_named_and_weighted, subtrees_are_of_nodes, weights_of_sets_fit};
 
@@ -35,4 +36,10 @@ pub fn rows_are_refused_exactly_where_they_disagree()
 /// with the tree.
 pub fn the_output_refuses_rows_exactly_where_they_disagree()
     ensures { OutputRefusesRowsExactly }
+{}
+
+/// Where no line of a job up to its query is faulty and its rows agree with its tree, its output is the one line `states` exactly where
+/// the tree is over the limit.
+pub fn the_output_refuses_sizes_exactly_where_they_are_over()
+    ensures { OutputRefusesSizeExactly }
 {}

@@ -1,7 +1,7 @@
 use Rattle.std.proofs.Common.{arith}
 use Rattle.std.proofs.lemmas.Grind.{common_steps}
 use Rattle.mm_job.proofs.FeedLemmas.{cause_after, on_err}
-use Rattle.mm_job.proofs.StandingLemmas.{text_cut, text_front, text_status, text_within, text_wrote}
+use Rattle.mm_job.proofs.StandingLemmas.{text_cut, text_front, text_spent, text_status, text_within, text_wrote}
 use Rattle.mm_job.proofs.feed.take_text_end.Goals as goal
 
 pub feed_lines-requires-clause-within : goal.feed_lines-requires-clause-within
@@ -35,3 +35,13 @@ returns-clause-writes g c =
           (held c.end_state.new.out) c.requires.stands c.requires.stream c.requires.size c.finish.ensures c.in_ok-feed_lines.ensures.fed c.in_ok-feed_lines.ensures.all c.end_state.ensures.front;
       cause = cause_after (faults c.args.out.now) (faults c.feed_lines.new.out) (faults c.end_state.new.out) c.end_state.result c.in_ok-feed_lines.ensures.cause.later c.end_state.ensures.cause;
     }
+
+pub returns-in_err-feed_lines-clause-steps : goal.returns-in_err-feed_lines-clause-steps
+returns-in_err-feed_lines-clause-steps g c =
+    text_spent c.args.limit c.args.framer.now c.finish.new.self c.feed_lines.new.framer c.args.state.now c.feed_lines.new.state c.feed_lines.result c.args.steps.now c.feed_lines.new.steps
+    c.requires.stands c.requires.stream c.requires.size c.finish.ensures c.feed_lines.ensures.all c.feed_lines.ensures.spends c.feed_lines.ensures.most
+
+pub returns-clause-steps : goal.returns-clause-steps
+returns-clause-steps g c =
+    text_spent c.args.limit c.args.framer.now c.finish.new.self c.feed_lines.new.framer c.args.state.now c.feed_lines.new.state c.feed_lines.result c.args.steps.now c.feed_lines.new.steps
+    c.requires.stands c.requires.stream c.requires.size c.finish.ensures c.feed_lines.ensures.all c.feed_lines.ensures.spends c.feed_lines.ensures.most

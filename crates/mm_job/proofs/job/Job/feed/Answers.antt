@@ -5,7 +5,9 @@ use Rattle.mm_job.specs.Jobs.{Grew, GrewByFront, progress, with_piece}
 use Rattle.mm_job.specs.Output.{Over, settled_output, status_of, written_lines}
 use Rattle.mm_job.specs.State.Standing.{written_at}
 use Rattle.mm_job.specs.declared.progress.Progress.TheVariants.{Ended}
-use Rattle.mm_job.proofs.JobLemmas.{fits, last_output, last_progress, room_of, value_as}
+use Rattle.mm_job.proofs.JobLemmas.{fits, last_output, last_progress, last_work, room_of, value_as}
+use Rattle.mm_job.specs.Calls.{SpendsOnText}
+use Rattle.mm_job.specs.Work.{settled_work}
 use Rattle.mm_job.proofs.job.Job.feed.Goals as goal
 
 pub returns-then-piece-room-clause-progress : goal.returns-then-piece-room-clause-progress
@@ -61,3 +63,21 @@ returns-else-piece-room-clause-writes g c =
       front = on_err_weaker {P = F (s.text ++ piece)} {Q = F (with_piece s.text piece)} c.feed_all.result (subst F (sym (fits s room piece (room_of c.self.inside s c.self.view_is c.requires.live c.self.invariant) short))) c.feed_all.ensures.writes.front;
       cause = c.feed_all.ensures.writes.cause;
     }
+
+pub returns-then-piece-room-clause-steps : goal.returns-then-piece-room-clause-steps
+returns-then-piece-room-clause-steps g c =
+    let s = c.args.self.now in
+    let piece = c.args.piece.now in
+    let room = most_bytes - c.self.inside.taken in
+    let long : room < length piece = omega (arith, c.if-piece-room.true) in
+    subst (λ (n : ℕ). SpendsOnText c.args.steps.now c.feed_last.new.steps (settled_work s.text s.limit) n)
+    (last_work s room piece (room_of c.self.inside s c.self.view_is c.requires.live c.self.invariant) long) c.feed_last.ensures.steps
+
+pub returns-else-piece-room-clause-steps : goal.returns-else-piece-room-clause-steps
+returns-else-piece-room-clause-steps g c =
+    let s = c.args.self.now in
+    let piece = c.args.piece.now in
+    let room = most_bytes - c.self.inside.taken in
+    let short : length piece ≤ room = omega (arith, c.if-piece-room.false) in
+    subst (λ (l : List ℕ). SpendsOnText c.args.steps.now c.feed_all.new.steps (settled_work s.text s.limit) (settled_work l s.limit))
+    (sym (fits s room piece (room_of c.self.inside s c.self.view_is c.requires.live c.self.invariant) short)) c.feed_all.ensures.steps

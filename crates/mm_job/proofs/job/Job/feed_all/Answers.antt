@@ -3,7 +3,7 @@ use Rattle.std.proofs.lemmas.Grind.{common_steps}
 use Rattle.mm_job.specs.Jobs.{Grew, GrewByFront}
 use Rattle.mm_job.specs.Output.{More}
 use Rattle.mm_job.proofs.FeedLemmas.{on_err}
-use Rattle.mm_job.proofs.JobLemmas.{all_of_state, state_goes_on, state_refused}
+use Rattle.mm_job.proofs.JobLemmas.{all_of_state, state_goes_on, state_refused, work_of_state}
 use Rattle.mm_job.proofs.job.Job.feed_all.Goals as goal
 
 pub returns-in_err-take_piece-clause-writes : goal.returns-in_err-take_piece-clause-writes
@@ -46,3 +46,17 @@ returns-clause-writes g c =
       front = tt;
       cause = grind (arith, common_steps);
     }
+
+pub returns-in_err-take_piece-clause-steps : goal.returns-in_err-take_piece-clause-steps
+returns-in_err-take_piece-clause-steps g c =
+    work_of_state c.args.piece.now c.self.inside c.args.self.now c.args.steps.now c.take_piece.new.steps c.self.view_is c.in_err-take_piece.ensures.steps
+
+
+pub returns-then-is_refused-clause-steps : goal.returns-then-is_refused-clause-steps
+returns-then-is_refused-clause-steps g c =
+    work_of_state c.args.piece.now c.self.inside c.args.self.now c.args.steps.now c.take_piece.new.steps c.self.view_is c.in_ok-take_piece.ensures.steps
+
+
+pub returns-clause-steps : goal.returns-clause-steps
+returns-clause-steps g c =
+    work_of_state c.args.piece.now c.self.inside c.args.self.now c.args.steps.now c.take_piece.new.steps c.self.view_is c.in_ok-take_piece.ensures.steps

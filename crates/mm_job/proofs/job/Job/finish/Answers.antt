@@ -3,7 +3,7 @@ use Rattle.std.proofs.lemmas.Result.{on_ok_weaker, on_err_weaker}
 use Rattle.mm_job.specs.Jobs.{Grew, GrewByFront}
 use Rattle.mm_job.specs.Output.{More, output, settled_output}
 use Rattle.mm_job.specs.State.Standing.{written_at}
-use Rattle.mm_job.proofs.JobLemmas.{live_of, of_state}
+use Rattle.mm_job.proofs.JobLemmas.{bound_of_state, live_of, of_state}
 use Rattle.mm_job.proofs.job.Job.finish.Goals as goal
 
 pub returns-clause-writes : goal.returns-clause-writes
@@ -17,3 +17,7 @@ returns-clause-writes g c =
       front = on_err_weaker {P = F (written_at More i.limit i.framer.bytes) (output i.framer.bytes i.limit)} {Q = F (settled_output c.args.self.now.text c.args.self.now.limit) (output c.args.self.now.text c.args.self.now.limit)} c.take_text_end.result (of_state F (λ limit text. output text limit) i c.args.self.now c.self.view_is (live_of i c.args.self.now c.self.view_is c.requires.live c.self.invariant).size) c.take_text_end.ensures.writes.front;
       cause = c.take_text_end.ensures.writes.cause;
     }
+
+pub returns-clause-steps : goal.returns-clause-steps
+returns-clause-steps g c =
+    bound_of_state c.self.inside c.args.self.now c.args.steps.now c.take_text_end.new.steps c.self.view_is c.take_text_end.ensures.steps
