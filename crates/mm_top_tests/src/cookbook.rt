@@ -221,7 +221,7 @@ const QUESTIONS: [(bool, &str, &str, [&str; 3]); 34] = [
     (
         false,
         "1",
-        "decide ex A ex B (ind(A) and ind(B) and all z (not z in A or not z in B) and all y ((y in A or not ind(A|y)) and (y in B or not ind(B|y))))",
+        "decide ex A ex B ((ind(A) and all y (y in A or not ind(A|y))) and (ind(B) and all y (y in B or not ind(B|y))) and all z (not z in A or not z in B))",
         ["true", "true", "false"],
     ),
     // two disjoint bases, by the dual
