@@ -155,8 +155,8 @@ const SAMPLES: [(&str, &str, u8); 8] = [
         0,
     ),
     (
-        "sample 5 200 2147483646",
-        "answers 201\nfirst least 3742 95\nlast least 3628 97\n",
+        "sample 5 40 2147483646",
+        "answers 41\nfirst least 1193 27\nlast least 1125 26\n",
         0,
     ),
     ("sample 2 1 1", "refused usage\n", 2),
@@ -205,7 +205,7 @@ fn a_failed_read_writes_nothing(rt: HostRuntime) -> Result<(), Fail> {
 #[test]
 fn a_failed_write_leaves_a_front_of_the_answer(rt: HostRuntime) -> Result<(), Fail> {
     let alloc = rt.alloc();
-    for (words, held) in [("build", "mso 1\nfiel"), ("sample 2 2 1", "answers 1\n")] {
+    for (words, held) in [("build", "mso 1\nfiel"), ("sample 2 2 1", "answers 3\n")] {
         let mut source = MemorySource::new(alloc, CHAIN.as_bytes(), 60, &[])?;
         let mut sink = MemorySink::new(alloc, 5, &[3])?;
         let status = call_once(alloc, words, &mut source, &mut sink)?;

@@ -19,8 +19,9 @@ const DUALS: [&str; 3] = [
     "mso 1\nfield 2\nelements a b c d\nrow 1110\nop j1 1 1 1 0 1 1\nop j2 1 1 0 1 1 1\nop j3 0 0 0 0 . .\ntree\nelem a 1 W\nelem b 1 W\njoin j1\nelem c 1 W\njoin j2\nelem d - W\njoin j3\nend\n",
 ];
 
-/// Whether the dual is asked, the weight of each element, the question, and the answers for the three matroids.
-const QUESTIONS: [(bool, &str, &str, [&str; 3]); 34] = [
+/// Lightest sets: whether the dual is asked, the weight of each element, the question, and the answers for the three
+/// matroids.
+const SETS: [(bool, &str, &str, [&str; 3]); 9] = [
     // an independent set
     (
         false,
@@ -77,6 +78,18 @@ const QUESTIONS: [(bool, &str, &str, [&str; 3]); 34] = [
         "least X ind(X)",
         ["least -4 d e f g", "least -3 c d e", "least -1 c"],
     ),
+    // a longest circuit
+    (
+        false,
+        "-1",
+        "least X not ind(X) and all Y ((Y sub X and not Y = X) implies ind(Y))",
+        ["least -4 c e f g", "least -3 b c e", "least -3 a b c"],
+    ),
+];
+
+/// Cocircuits, flats and separations: whether the dual is asked, the weight of each element, the question, and the answers for the three
+/// matroids.
+const CUTS: [(bool, &str, &str, [&str; 3]); 7] = [
     // a set that hits every basis
     (
         false,
@@ -126,6 +139,11 @@ const QUESTIONS: [(bool, &str, &str, [&str; 3]); 34] = [
         "least X ex x x in X and ex x not x in X and all C ((not ind(C) and all D ((D sub C and not D = C) implies ind(D))) implies (C sub X or all x (x in C implies not x in X)))",
         ["none", "least 1 d", "least 1 d"],
     ),
+];
+
+/// Sentences on few elements: whether the dual is asked, the weight of each element, the question, and the answers for the three
+/// matroids.
+const SENTENCES: [(bool, &str, &str, [&str; 3]); 9] = [
     // simple
     (
         false,
@@ -189,6 +207,11 @@ const QUESTIONS: [(bool, &str, &str, [&str; 3]); 34] = [
         "decide ex x ex y ex z not ind(x|y|z)",
         ["false", "true", "true"],
     ),
+];
+
+/// Connected matroids, covers and disjoint bases: whether the dual is asked, the weight of each element, the question, and the answers for the three
+/// matroids.
+const CONNECTED: [(bool, &str, &str, [&str; 3]); 8] = [
     // connected
     (
         false,
@@ -245,20 +268,6 @@ const QUESTIONS: [(bool, &str, &str, [&str; 3]); 34] = [
         "decide ex x ex B (ind(B) and not ind(B|x) and all D (not D sub B or D = B or ind(D|x)) and all y (y in B or not ind(B|y)))",
         ["true", "true", "false"],
     ),
-    // a longest circuit
-    (
-        false,
-        "-1",
-        "least X not ind(X) and all Y ((Y sub X and not Y = X) implies ind(Y))",
-        ["least -4 c e f g", "least -3 b c e", "least -3 a b c"],
-    ),
-    // a 2-separation
-    (
-        false,
-        "1",
-        "decide ex X ((ex x ex y (not x = y and x in X and y in X)) and (ex x ex y (not x = y and not x in X and not y in X)) and ex J ex z (all Y ((Y sub J and not z in Y) implies ind(Y)) and all x ((x in X implies ex Y (Y sub J and Y sub X and ind(Y) and (x in Y or not ind(Y|x)))) and (x in X or ex Y (Y sub J and all y (y in Y implies not y in X) and ind(Y) and (x in Y or not ind(Y|x)))))))",
-        ["false", "true", "true"],
-    ),
 ];
 
 /// A header with this weight of each element.
@@ -278,18 +287,75 @@ fn weighed(alloc: Global, header: &str, weight: &str) -> Result<String, Fail> {
     Ok(text)
 }
 
-#[test]
-fn the_questions_of_the_page_are_answered(rt: HostRuntime) -> Result<(), Fail> {
-    let alloc = rt.alloc();
-    for (of_dual, weight, question, answers) in QUESTIONS {
-        let headers = if of_dual { DUALS } else { MATROIDS };
-        for (header, answer) in headers.iter().zip(&answers) {
-            let header = weighed(alloc, header, weight)?;
-            let text = format!(in alloc; "{header}{question}\n")?;
-            let output = format!(in alloc; "{answer}\n")?;
-            let same = gives(alloc, "run", text.as_bytes(), 4096, output.as_str(), 0)?;
-            assert!(rt; same, "{text}");
+/// Whether the question has these answers for the three matroids, or their duals.
+fn has_answers(
+    alloc: Global,
+    of_dual: bool,
+    weight: &str,
+    question: &str,
+    answers: [&str; 3],
+) -> Result<bool, Fail> {
+    let headers = if of_dual { DUALS } else { MATROIDS };
+    for (header, answer) in headers.iter().zip(&answers) {
+        let header = weighed(alloc, header, weight)?;
+        let text = format!(in alloc; "{header}{question}\n")?;
+        let output = format!(in alloc; "{answer}\n")?;
+        if !gives(alloc, "run", text.as_bytes(), 4096, output.as_str(), 0)? {
+            return Ok(false);
         }
     }
+    Ok(true)
+}
+
+#[test]
+fn lightest_sets_are_found(rt: HostRuntime) -> Result<(), Fail> {
+    let alloc = rt.alloc();
+    for (of_dual, weight, question, answers) in SETS {
+        let same = has_answers(alloc, of_dual, weight, question, answers)?;
+        assert!(rt; same, "{question}");
+    }
+    Ok(())
+}
+
+#[test]
+fn cocircuits_flats_and_separations_are_found(rt: HostRuntime) -> Result<(), Fail> {
+    let alloc = rt.alloc();
+    for (of_dual, weight, question, answers) in CUTS {
+        let same = has_answers(alloc, of_dual, weight, question, answers)?;
+        assert!(rt; same, "{question}");
+    }
+    Ok(())
+}
+
+#[test]
+fn sentences_on_few_elements_are_decided(rt: HostRuntime) -> Result<(), Fail> {
+    let alloc = rt.alloc();
+    for (of_dual, weight, question, answers) in SENTENCES {
+        let same = has_answers(alloc, of_dual, weight, question, answers)?;
+        assert!(rt; same, "{question}");
+    }
+    Ok(())
+}
+
+#[test]
+fn connected_matroids_and_covers_are_decided(rt: HostRuntime) -> Result<(), Fail> {
+    let alloc = rt.alloc();
+    for (of_dual, weight, question, answers) in CONNECTED {
+        let same = has_answers(alloc, of_dual, weight, question, answers)?;
+        assert!(rt; same, "{question}");
+    }
+    Ok(())
+}
+
+/// A separation that needs many states, asked of a triangle with a coloop alone.
+const SEPARATION: &str = "decide ex X ((ex x ex y (not x = y and x in X and y in X)) and (ex x ex y (not x = y and not x in X and not y in X)) and ex J ex z (all Y ((Y sub J and not z in Y) implies ind(Y)) and all x ((x in X implies ex Y (Y sub J and Y sub X and ind(Y) and (x in Y or not ind(Y|x)))) and (x in X or ex Y (Y sub J and all y (y in Y implies not y in X) and ind(Y) and (x in Y or not ind(Y|x)))))))";
+
+#[test]
+fn a_separation_is_found(rt: HostRuntime) -> Result<(), Fail> {
+    let alloc = rt.alloc();
+    let header = MATROIDS.last().ok_or("a matroid")?;
+    let header = weighed(alloc, header, "1")?;
+    let text = format!(in alloc; "{header}{SEPARATION}\n")?;
+    assert!(rt; gives(alloc, "run", text.as_bytes(), 4096, "true\n", 0)?);
     Ok(())
 }
