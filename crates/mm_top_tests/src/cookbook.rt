@@ -19,8 +19,8 @@ const DUALS: [&str; 3] = [
     "mso 1\nfield 2\nelements a b c d\nrow 1110\nop j1 1 1 1 0 1 1\nop j2 1 1 0 1 1 1\nop j3 0 0 0 0 . .\ntree\nelem a 1 W\nelem b 1 W\njoin j1\nelem c 1 W\njoin j2\nelem d - W\njoin j3\nend\n",
 ];
 
-/// Lightest sets: whether the dual is asked, the weight of each element, the question, and the answers for the three
-/// matroids.
+/// Lightest sets: whether the dual is asked, the weight of each element,
+/// the question, and the answers for the three matroids.
 const SETS: [(bool, &str, &str, [&str; 3]); 9] = [
     // an independent set
     (
@@ -87,8 +87,8 @@ const SETS: [(bool, &str, &str, [&str; 3]); 9] = [
     ),
 ];
 
-/// Cocircuits, flats and separations: whether the dual is asked, the weight of each element, the question, and the answers for the three
-/// matroids.
+/// Cocircuits, flats and separations: whether the dual is asked, the weight of each element,
+/// the question, and the answers for the three matroids.
 const CUTS: [(bool, &str, &str, [&str; 3]); 7] = [
     // a set that hits every basis
     (
@@ -141,8 +141,8 @@ const CUTS: [(bool, &str, &str, [&str; 3]); 7] = [
     ),
 ];
 
-/// Sentences on few elements: whether the dual is asked, the weight of each element, the question, and the answers for the three
-/// matroids.
+/// Sentences on few elements: whether the dual is asked, the weight of each element,
+/// the question, and the answers for the three matroids.
 const SENTENCES: [(bool, &str, &str, [&str; 3]); 9] = [
     // simple
     (
@@ -209,8 +209,8 @@ const SENTENCES: [(bool, &str, &str, [&str; 3]); 9] = [
     ),
 ];
 
-/// Connected matroids, covers and disjoint bases: whether the dual is asked, the weight of each element, the question, and the answers for the three
-/// matroids.
+/// Connected matroids, covers and disjoint bases: whether the dual is asked, the weight of each element,
+/// the question, and the answers for the three matroids.
 const CONNECTED: [(bool, &str, &str, [&str; 3]); 8] = [
     // connected
     (

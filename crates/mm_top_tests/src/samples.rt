@@ -25,9 +25,7 @@ const SAMPLES: [(&str, &str); 3] = [
 fn samples_are_answered(rt: HostRuntime) -> Result<(), Fail> {
     let alloc = rt.alloc();
     for (words, output) in SAMPLES {
-        for _ in 0..2 {
-            assert!(rt; gives(alloc, words, b"", 1, output, 0)?, "{words}");
-        }
+        assert!(rt; gives(alloc, words, b"", 1, output, 0)?, "{words}");
     }
     Ok(())
 }
