@@ -348,7 +348,8 @@ fn connected_matroids_and_covers_are_decided(rt: HostRuntime) -> Result<(), Fail
 }
 
 /// A separation that needs many states, asked of a triangle with a coloop alone.
-const SEPARATION: &str = "decide ex X ((ex x ex y (not x = y and x in X and y in X)) and (ex x ex y (not x = y and not x in X and not y in X)) and ex J ex z (all Y ((Y sub J and not z in Y) implies ind(Y)) and all x ((x in X implies ex Y (Y sub J and Y sub X and ind(Y) and (x in Y or not ind(Y|x)))) and (x in X or ex Y (Y sub J and all y (y in Y implies not y in X) and ind(Y) and (x in Y or not ind(Y|x)))))))";
+const SEPARATION: &str =
+    "decide ex X ((ex x ex y (not x = y and x in X and y in X)) and (ex x ex y (not x = y and not x in X and not y in X)) and ex J ex z (all Y ((Y sub J and not z in Y) implies ind(Y)) and all x ((x in X implies ex Y (Y sub J and Y sub X and ind(Y) and (x in Y or not ind(Y|x)))) and (x in X or ex Y (Y sub J and all y (y in Y implies not y in X) and ind(Y) and (x in Y or not ind(Y|x)))))))";
 
 #[test]
 fn a_separation_is_found(rt: HostRuntime) -> Result<(), Fail> {

@@ -61,12 +61,7 @@ const CHANGES: [(&str, &str, &str, u8); 33] = [
         "false\nrefused syntax 16\nrefused syntax 17\nfalse\nrefused syntax 19\n",
         3,
     ),
-    (
-        "",
-        "replace c 0\nelem d 1 1\nend\n",
-        "false\nfalse\n",
-        0,
-    ),
+    ("", "replace c 0\nelem d 1 1\nend\n", "false\nfalse\n", 0),
     ("", "# note\n\n \t\n", "false\n", 0),
     ("", "check x\nend\n", "false\nrefused syntax 16\n", 3),
 ];

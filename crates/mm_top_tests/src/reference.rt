@@ -305,9 +305,7 @@ fn answer(alloc: Global, job: &JobText, query: &Query) -> Result<String, Fail> {
 fn is_answered(alloc: Global, text: &str, expected: &str) -> Result<bool, Fail> {
     let (job, query) = read_job(alloc, text)?;
     let written = answer(alloc, &job, &query)?;
-    Ok(
-        written.as_str() == expected && gives(alloc, "run", text.as_bytes(), 4096, expected, 0)?,
-    )
+    Ok(written.as_str() == expected && gives(alloc, "run", text.as_bytes(), 4096, expected, 0)?)
 }
 
 #[test]

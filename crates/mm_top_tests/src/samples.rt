@@ -53,8 +53,6 @@ fn a_sample_with_a_set_quantifier_is_decided(rt: HostRuntime) -> Result<(), Fail
     for _ in 0..201 {
         output.push_str("true\n")?;
     }
-    assert!(rt;
-        gives(alloc, "run", text.as_bytes(), 4096, output.as_str(), 0)?
-    );
+    assert!(rt; gives(alloc, "run", text.as_bytes(), 4096, output.as_str(), 0)?);
     Ok(())
 }
