@@ -31,7 +31,6 @@ use Rattle.mm_job_laws.proofs.QueryLemmas.{other_word, whole_line}
 use Rattle.mm_job_laws.proofs.SoundLemmas.{AreDifferent, names_stay_different, rows_stay_vectors}
 use Rattle.mm_job_text.specs.Arguments.{begins, too_long}
 use Rattle.mm_job_text.specs.HeaderLines.{elements_line, row_line}
-use Rattle.mm_job_text.specs.Checks.{◌>>=◌, ◌>>◌}
 use Rattle.mm_job_text.specs.Readers.{Reading, Read, Refused, Short, each, line, refused_or}
 use Rattle.mm_job_text.specs.TreeLines.{tree_lines}
 use Rattle.mm_job_text.specs.declared.refusal.Limit.TheVariants as limit
