@@ -110,12 +110,12 @@ gives limit rs p r rest others s e h =
         sound = sound;
         agreeing = same.0 h.same;
       },
-      subst (λ (t : Session). IsSound t) (sym h.session) 
-      (record {
-        ops = sound.ops;
-        tree = sound.tree;
-        query = record { sought = spelled.sought; formula = spelled.formula; scoped = spelled.scoped; asks = spelled.asks };
-      }),
+      subst (λ (t : Session). IsSound t) (sym h.session)
+          (record {
+            ops = sound.ops;
+            tree = sound.tree;
+            query = record { sought = spelled.sought; formula = spelled.formula; scoped = spelled.scoped; asks = spelled.asks };
+          }),
     )
 
 from_parts : (limit : ℕ) (rs rest : List Line) (s : Session) (reading : Reading Parts) → parts job_rules rs ≡ reading →

@@ -15,14 +15,14 @@ use Rattle.mm_header.specs.Rules.{job_rules}
 use Rattle.mm_edit.specs.Edits.{Applied}
 use Rattle.mm_job.specs.Edits.{Changed, Compared, Denied, Reply, another_weight, block, changed, check_end, check_names, check_rows, checked, compared_or, exchange_refusal, exchanged, is_same, light_fields, line_edit, read_whole, replace_edit, replace_fields, replaced_path, replacement, single, weight_edit, weight_fields}
 use Rattle.mm_job.proofs.EditLemmas.{no_memory}
-use Rattle.mm_job.specs.Header.{Session, is_over_limit}
-use Rattle.mm_job.specs.Items.{Items}
+use Rattle.mm_job.specs.Header.{Session, header, is_over_limit}
+use Rattle.mm_job.specs.Items.{Items, Single, Block, items}
 use Rattle.mm_job.specs.Meaning.{answer_line}
 use Rattle.mm_job.specs.Output.{Ended, Ending, after_reply, answered, ending, lines_after_header, lines_of_items, output_lines, reply_line, written_lines}
 use Rattle.mm_job.specs.declared.output_line.OutputLine.{OutputLine}
 use Rattle.mm_job.specs.declared.output_line.OutputLine.TheVariants.{Refuses, Says}
 use Rattle.mm_job_laws.specs.Agreement.{Agrees}
-use Rattle.mm_job_laws.specs.AnswerLaws.{ChecksAreAnswered, ComesTo, IsCheck, IsComparison, IsEdited, IsReplacement, IsSound, IsWeight, ItemsKeepSessionsSound, OutputAnswersChecks, RefusalsChangeNothing, ReplacementsAreAnswered, WeightsAreAnswered}
+use Rattle.mm_job_laws.specs.AnswerLaws.{ChecksAreAnswered, ComesTo, HasLine, IsCheck, IsComparison, IsEdited, IsReplacement, IsSound, IsWeight, ItemsKeepSessionsSound, OutputAnswersChecks, RefusalsChangeNothing, ReplacementsAreAnswered, WeightsAreAnswered}
 use Rattle.mm_job_laws.proofs.AgreementLemmas.{same_exactly_where_they_agree}
 use Rattle.mm_job_laws.proofs.AnswerLemmas.{headers_give_sessions, lines_are_answers}
 use Rattle.mm_job_laws.proofs.RefusalLemmas.{is_over, is_within}
@@ -31,7 +31,6 @@ use Rattle.mm_job_laws.proofs.QueryLemmas.{other_word, whole_line}
 use Rattle.mm_job_laws.proofs.SoundLemmas.{AreDifferent, names_stay_different, rows_stay_vectors}
 use Rattle.mm_job_text.specs.Arguments.{begins, too_long}
 use Rattle.mm_job_text.specs.HeaderLines.{elements_line, row_line}
-use Rattle.mm_job_text.specs.Checks.{◌>>=◌, ◌>>◌}
 use Rattle.mm_job_text.specs.Readers.{Reading, Read, Refused, Short, each, line, refused_or}
 use Rattle.mm_job_text.specs.TreeLines.{tree_lines}
 use Rattle.mm_job_text.specs.declared.refusal.Limit.TheVariants as limit
@@ -131,7 +130,7 @@ changed_keeps s (Ok a) h k = go (is_over_limit s a.tree)
     go true = h
     go false = record { ops = h.ops; tree = k; query = h.query }
 
-compared_keeps : (s : Session) (res : Result Bool Refusal) → after_reply s (compared_or res) ≡ s
+pub compared_keeps : (s : Session) (res : Result Bool Refusal) → after_reply s (compared_or res) ≡ s
 compared_keeps s (Ok same) = refl
 compared_keeps s (Err e) = refl
 
@@ -147,7 +146,7 @@ block_keeps s r rs h = go (begins (codes "replace") r)
     go true = changed_keeps s (replace_edit s r rs) h (replace_keeps s r rs h)
     go false = subst (λ (t : Session). IsSound t) (sym (compared_keeps s (checked s r rs))) h
 
-keeps : {s t : Session} {i j : Items} → IsSound s → ComesTo s i t j → IsSound t
+pub keeps : {s t : Session} {i j : Items} → IsSound s → ComesTo s i t j → IsSound t
 keeps h ComesTo.begun = h
 keeps h (ComesTo.after_line {t = t} {r = r} c) = single_keeps t r (keeps h c)
 keeps h (ComesTo.after_block {t = t} {r = r} {rs = rs} c) = block_keeps t r rs (keeps h c)
@@ -290,13 +289,33 @@ lines_come e (ComesTo.after_block {t = t} {rest = rest} {r = r} {rs = rs} c) =
     let reply = reply_line (block t r rs) in
     (h.0 ++ reply ∷ [], h.1 ∙ sym (append_assoc h.0 (reply ∷ []) (lines_of_items e (after_reply t (block t r rs)) rest)))
 
-pub output_answers_checks : OutputAnswersChecks
+pub single_line : (limit : ℕ) (text : List ℕ) (rest : List Line) (s t : Session) (r : Line) (more : Items) → header limit (lines text) ≡ Read s rest
+    → ComesTo s (items rest) t (Single r more) → HasLine (reply_line (single t r)) (output_lines text limit)
 unfolding output_lines written_lines lines_of_items
-output_answers_checks limit text rest s t r rs given more read comes check =
+single_line limit text rest s t r more read comes =
     let e = ending Ended text in
-    let sound = (headers_give_sessions limit (lines text) rest s read).1 in
     let h = lines_come e comes in (
+      answered s ∷ h.0,
+      lines_of_items e (after_reply t (single t r)) more,
+      ap (lines_after_header e) read ∙ ap (λ ls. answered s ∷ ls) h.1,
+    )
+
+pub block_line : (limit : ℕ) (text : List ℕ) (rest : List Line) (s t : Session) (r : Line) (rs : List Line) (more : Items)
+    → header limit (lines text) ≡ Read s rest → ComesTo s (items rest) t (Block r rs more)
+    → HasLine (reply_line (block t r rs)) (output_lines text limit)
+unfolding output_lines written_lines lines_of_items
+block_line limit text rest s t r rs more read comes =
+    let e = ending Ended text in
+    let h = lines_come e comes in (
+      answered s ∷ h.0,
+      lines_of_items e (after_reply t (block t r rs)) more,
+      ap (lines_after_header e) read ∙ ap (λ ls. answered s ∷ ls) h.1,
+    )
+
+pub output_answers_checks : OutputAnswersChecks
+output_answers_checks limit text rest s t r rs given more read comes check =
+    let sound = (headers_give_sessions limit (lines text) rest s read).1 in (
       reply_line (block t r rs),
       checks_are_answered t r rs given (keeps sound comes) check,
-      (answered s ∷ h.0, lines_of_items e (after_reply t (block t r rs)) more, ap (lines_after_header e) read ∙ ap (λ ls. answered s ∷ ls) h.1),
+      block_line limit text rest s t r rs more read comes,
     )

@@ -8,3 +8,4 @@ pub mod AnswerLemmas
 pub mod VerdictLemmas
 pub mod ItemLemmas
 pub mod NodeLemmas
+pub mod EditLawLemmas

@@ -7,7 +7,7 @@ use Rattle.mm_header.specs.Header.{Parts, parts, verdict_refusal}
 use Rattle.mm_header.specs.Queries.{query_line}
 use Rattle.mm_header.specs.Queries.Question.{Spelled}
 use Rattle.mm_header.specs.Rules.{job_rules}
-use Rattle.mm_job.specs.Header.{Session, query_part, header, header_lines, started, built}
+use Rattle.mm_job.specs.Header.{Session, query_part, header, header_lines, is_over_limit, started}
 use Rattle.mm_job.specs.Meaning.{answer_line}
 use Rattle.mm_job.specs.Output.{Ending, More, Ended, Over, answered, ending, lines_after_header, written_lines, output_lines}
 use Rattle.mm_job.specs.declared.output_line.OutputLine.{OutputLine}

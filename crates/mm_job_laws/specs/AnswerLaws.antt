@@ -97,7 +97,8 @@ IsAnswer f (Least F) tree line = IsLeast f F tree line
 
 -- The line that is written for a query is its answer, for each query and each tree with a valid shape.
 abbrev pub AnswerLinesAreAnswers : Type 0
-AnswerLinesAreAnswers = (f : Field) (query : Query) (tree : Tree) → IsValid f (shape tree) → IsAnswer f query tree (answer_line f query tree)
+AnswerLinesAreAnswers =
+    (f : Field) (query : Query) (tree : Tree) → IsValid f (shape tree) → IsAnswer f query tree (answer_line f query tree)
 
 -- ---- headers that are read
 
@@ -274,7 +275,8 @@ IsComparison s given line =
 -- A check answers whether the given rows agree with the present tree.
 abbrev pub ChecksAreAnswered : Type 0
 ChecksAreAnswered =
-    (s : Session) (r : Line) (rs : List Line) (given : Named) → IsSound s → IsCheck s r rs given → IsComparison s given (reply_line (block s r rs))
+    (s : Session) (r : Line) (rs : List Line) (given : Named) → IsSound s → IsCheck s r rs given
+    → IsComparison s given (reply_line (block s r rs))
 
 -- some lines of an output, and then this line
 abbrev pub HasLine : OutputLine → List OutputLine → Type 0

@@ -2,3 +2,4 @@ pub mod Agreement
 pub mod HeaderLaws
 pub mod AnswerLaws
 pub mod TreeLaws
+pub mod EditLaws

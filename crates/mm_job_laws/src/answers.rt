@@ -2,6 +2,7 @@
 ghost use Rattle.mm_job_laws.specs.AnswerLaws.{AnswerLinesAreAnswers, ChecksAreAnswered, HeadersGiveSessions, ItemsKeepSessionsSound, QueryLinesGiveWhatTheySpell};
 ghost use Rattle.mm_job_laws.specs.AnswerLaws.{OutputAnswersChecks, OutputBeginsWithAnswer, OutputNamesTheDifference, VerdictsAreMeant};
 ghost use Rattle.mm_job_laws.specs.AnswerLaws.{RefusalsChangeNothing, ReplacementsAreAnswered, WeightsAreAnswered};
+ghost use Rattle.mm_job_laws.specs.EditLaws.{OutputAnswersReplacements, OutputAnswersWeights, SessionsMayBegin};
 
 /// A query line gives exactly the query that it spells: the grammar derives its formula from the text of the line, and the formula
 /// is scoped and within its limits.
@@ -63,4 +64,19 @@ pub fn checks_are_answered()
 /// Where the items of a text come to a check, the output has the line that answers it.
 pub fn the_output_answers_checks()
     ensures { OutputAnswersChecks }
+{}
+
+/// Where the items of a text come to another weight of an element, the output has the line that answers it.
+pub fn the_output_answers_weights()
+    ensures { OutputAnswersWeights }
+{}
+
+/// Where the items of a text come to a new subtree, the output has the line that answers it.
+pub fn the_output_answers_replacements()
+    ensures { OutputAnswersReplacements }
+{}
+
+/// However the present tree of a job came about, a session begun with it is not refused for its size.
+pub fn sessions_may_begin_with_the_present_tree()
+    ensures { SessionsMayBegin }
 {}

@@ -148,9 +148,17 @@ fn a_built_header_is_that_of_a_job(rt: HostRuntime) -> Result<(), Fail> {
 
 /// The words of a sample, what is written, and the status.
 const SAMPLES: [(&str, &str, u8); 8] = [
-    ("sample 2 2 1", NOT_BUILT, 1),
-    ("sample 03 0000000020 7", NOT_BUILT, 1),
-    ("sample 5 200 2147483646", NOT_BUILT, 1),
+    ("sample 2 2 1", SMALLEST, 0),
+    (
+        "sample 03 0000000020 7",
+        "answers 21\nfirst least 257 10\nlast least 220 9\n",
+        0,
+    ),
+    (
+        "sample 5 40 2147483646",
+        "answers 41\nfirst least 1193 27\nlast least 1125 26\n",
+        0,
+    ),
     ("sample 2 1 1", "refused usage\n", 2),
     ("sample 2 201 1", "refused usage\n", 2),
     ("sample 6 2 1", "refused usage\n", 2),
@@ -158,8 +166,8 @@ const SAMPLES: [(&str, &str, u8); 8] = [
     ("sample 2 2 2147483647", "refused usage\n", 2),
 ];
 
-/// The short form of a job that asks for what is not built yet.
-const NOT_BUILT: &str = "answers 1\nfirst refused not-built\nlast refused not-built\n";
+/// The short form of the smallest sample.
+const SMALLEST: &str = "answers 3\nfirst least 171 2\nlast least 157 2\n";
 
 #[test]
 fn samples_are_shown_in_short(rt: HostRuntime) -> Result<(), Fail> {
@@ -176,8 +184,8 @@ fn a_sample_reads_nothing(rt: HostRuntime) -> Result<(), Fail> {
     let mut source = MemorySource::new(alloc, CIRCUIT.as_bytes(), 9, &[1])?;
     let mut sink = MemorySink::new(alloc, 4096, &[])?;
     let status = call_once(alloc, "sample 2 2 1", &mut source, &mut sink)?;
-    assert!(rt; status == Status::Refused);
-    assert!(rt; sink.bytes() == NOT_BUILT.as_bytes());
+    assert!(rt; status == Status::Done);
+    assert!(rt; sink.bytes() == SMALLEST.as_bytes());
     Ok(())
 }
 
@@ -197,7 +205,7 @@ fn a_failed_read_writes_nothing(rt: HostRuntime) -> Result<(), Fail> {
 #[test]
 fn a_failed_write_leaves_a_front_of_the_answer(rt: HostRuntime) -> Result<(), Fail> {
     let alloc = rt.alloc();
-    for (words, held) in [("build", "mso 1\nfiel"), ("sample 2 2 1", "answers 1\n")] {
+    for (words, held) in [("build", "mso 1\nfiel"), ("sample 2 2 1", "answers 3\n")] {
         let mut source = MemorySource::new(alloc, CHAIN.as_bytes(), 60, &[])?;
         let mut sink = MemorySink::new(alloc, 5, &[3])?;
         let status = call_once(alloc, words, &mut source, &mut sink)?;

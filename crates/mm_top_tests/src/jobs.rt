@@ -32,8 +32,8 @@ const CHANGES: [(&str, &str, &str, u8); 33] = [
     ("15 decide ind(Y)", "", "refused unbound Y\n", 1),
     ("15 decide ind(", "", "refused formula\n", 1),
     ("15 decide x = X", "", "refused formula\n", 1),
-    ("15 decide ex x true", "", "refused not-built\n", 1),
-    ("15 least X not ind(X)", "", "refused not-built\n", 1),
+    ("15 decide ex x true", "", "true\n", 0),
+    ("15 least X not ind(X)", "", "least 15 a b c\n", 0),
     ("3 elements a b d", "", "refused elements d\n", 1),
     ("3 elements a b a", "", "refused name a taken\n", 1),
     ("13", "", "refused tree 13\n", 1),
@@ -58,15 +58,10 @@ const CHANGES: [(&str, &str, &str, u8); 33] = [
     (
         "",
         "turn\nend\nweight a 2\nreplace c\nend\n",
-        "false\nrefused syntax 16\nrefused syntax 17\nrefused not-built\nrefused syntax 19\n",
+        "false\nrefused syntax 16\nrefused syntax 17\nfalse\nrefused syntax 19\n",
         3,
     ),
-    (
-        "",
-        "replace c 0\nelem d 1 1\nend\n",
-        "false\nrefused not-built\n",
-        3,
-    ),
+    ("", "replace c 0\nelem d 1 1\nend\n", "false\nfalse\n", 0),
     ("", "# note\n\n \t\n", "false\n", 0),
     ("", "check x\nend\n", "false\nrefused syntax 16\n", 3),
 ];
@@ -229,10 +224,10 @@ fn words_are_read_by_the_table(rt: HostRuntime) -> Result<(), Fail> {
     assert!(rt;
         gives(
             alloc,
-            "run --limit 9",
+            "run --limit 7",
             CIRCUIT.as_bytes(),
             9,
-            "refused not-built\n",
+            "refused states\n",
             1
         )?
     );

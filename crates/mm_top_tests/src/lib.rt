@@ -7,7 +7,11 @@ mod changes;
 #[cfg(test)]
 mod commands;
 #[cfg(test)]
+mod cookbook;
+#[cfg(test)]
 mod devices;
+#[cfg(test)]
+mod edits;
 #[cfg(test)]
 mod jobs;
 #[cfg(test)]
@@ -16,3 +20,5 @@ mod large;
 mod reference;
 #[cfg(test)]
 mod running;
+#[cfg(test)]
+mod samples;
