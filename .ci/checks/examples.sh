@@ -1,7 +1,7 @@
 #!/usr/bin/env bash
-# The examples of the way from a matrix to an answer: what `build` writes of each text is the header beside it, and each question put
-# after the header is answered as written there. A question that the program does not answer yet is counted apart. The program is the
-# one that `rt ci` or `rt run` built.
+# The examples of the way from a matrix to an answer: what `build` writes of each text is the header beside it, what `dual` writes of a
+# header is the one whose name ends in `_dual`, and each question put after a header is answered as written beside it. A question that
+# the program does not answer yet is counted apart. The program is the one that `rt ci` or `rt run` built.
 set -u
 cd "$(dirname "$0")/../.." || exit 1
 program=crates/mso/out/mso
@@ -12,12 +12,22 @@ fi
 failed=0
 answered=0
 left=0
-for text in examples/*.mso-build; do
-  name=${text%.mso-build}
-  if ! "$program" build < "$text" | cmp -s - "$name.header"; then
-    echo "examples: build of $text does not write $name.header"
+
+writes() { # COMMAND TEXT HEADER
+  if ! "$program" "$1" < "$2" | cmp -s - "$3"; then
+    echo "examples: $1 of $2 does not write $3"
     failed=$((failed + 1))
   fi
+}
+
+for text in examples/*.mso-build; do
+  writes build "$text" "${text%.mso-build}.header"
+done
+for dual in examples/*_dual.header; do
+  writes dual "${dual%_dual.header}.header" "$dual"
+done
+for answers in examples/*.answers; do
+  name=${answers%.answers}
   while read -r question && read -r answer; do
     got=$({ cat "$name.header"; echo "$question"; } | "$program" run)
     case $got in
@@ -28,7 +38,7 @@ for text in examples/*.mso-build; do
         failed=$((failed + 1))
         ;;
     esac
-  done < "$name.answers"
+  done < "$answers"
 done
 echo "examples: $answered answered, $left not built yet, $failed failed"
 [ "$failed" -eq 0 ]

@@ -11,7 +11,9 @@ use Rattle.mm_base.specs.declared.status.Status.TheVariants as ends
 use Rattle.mm_lines.specs.Lines.{is_over, lines, lines_of, most_bytes}
 use Rattle.mm_decomp.specs.BuildOutput.{build_output, header_of, output_of}
 use Rattle.mm_decomp.specs.Decompositions.{build_parts, decomposition_of, read_at_end}
-use Rattle.mm_cli.specs.Answers.{Answer, Writes, build, made}
+use Rattle.mm_decomp.specs.DualOutput.{dual_of_tree, dual_output}
+use Rattle.mm_decomp.specs.GivenTrees.{given_tree_of, tree_at_end, tree_parts}
+use Rattle.mm_cli.specs.Answers.{Answer, Writes, build, dual, made}
 use Rattle.mm_cli.specs.Runs.{IsCut, IsEnd}
 use Rattle.mm_cli.specs.Whole.{AnswersText, TookAll}
 use Rattle.mm_cli.proofs.RunLemmas.{end_not_cut, still}
@@ -38,6 +40,12 @@ unfolding build build_output decomposition_of
 build_is_cut_off a b e =
     ap (λ (over : Bool). made (output_of header_of (read_at_end over (build_parts (lines (a ++ b)))))) (over_longer a b e)
     ∙ ap (λ rs. made (output_of header_of (read_at_end (is_over a) (build_parts rs)))) (same_lines a b e)
+
+pub dual_is_cut_off : IsCutOff dual
+unfolding dual dual_output given_tree_of
+dual_is_cut_off a b e =
+    ap (λ (over : Bool). made (output_of (λ t. Ok (dual_of_tree t)) (tree_at_end over (tree_parts (lines (a ++ b)))))) (over_longer a b e)
+    ∙ ap (λ rs. made (output_of (λ t. Ok (dual_of_tree t)) (tree_at_end (is_over a) (tree_parts rs)))) (same_lines a b e)
 
 -- What is answered to what was taken is answered to all that the source had.
 answer_of_taken : (answer : List ℕ → Answer) → IsCutOff answer → (all taken rest : List ℕ) → all ≡ taken ++ rest

@@ -10,6 +10,7 @@ use Rattle.mm_job.specs.Output.{output, end_of}
 use Rattle.mm_sample.specs.SampleText.{sample_text}
 use Rattle.mm_sample.specs.Summary.{summary}
 use Rattle.mm_decomp.specs.BuildOutput.{build_output}
+use Rattle.mm_decomp.specs.DualOutput.{dual_output}
 use Rattle.mm_cli.specs.Runs.{IsCut}
 use Rattle.mm_cli.specs.Words.{most_limit}
 use Rattle.mm_cli.specs.declared.words.SampleNumbers.{SampleNumbers}
@@ -50,6 +51,10 @@ sample s = record { output = summary (output (sample_job s) most_limit); status 
 -- `build` answers the text of a decomposition with the header of the tree that is built for it.
 unfoldable pub build : List ℕ → Answer
 build text = made (build_output text)
+
+-- `dual` answers the text of a header with the header of a tree of the dual matroid.
+unfoldable pub dual : List ℕ → Answer
+dual text = made (dual_output text)
 
 -- An answer was written, and the status is its own, unless the write was cut short.
 pub record Writes (answer : Answer) (held held_new : Option (List ℕ)) (status : Status) : Type 0 where

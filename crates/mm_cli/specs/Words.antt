@@ -9,7 +9,7 @@ use Rattle.mm_space.specs.DigitTexts.{vectors_of}
 use Rattle.mm_job_text.specs.HeaderLines.{field_of}
 use Rattle.mm_cli.specs.declared.words.TheConstants.{MOST_LIMIT, MOST_ELEMENTS, MOST_SEED}
 use Rattle.mm_cli.specs.declared.words.Command.{Command}
-use Rattle.mm_cli.specs.declared.words.Command.TheVariants.{Run, Sample, Build, NotBuilt}
+use Rattle.mm_cli.specs.declared.words.Command.TheVariants.{Run, Sample, Build, Dual, NotBuilt}
 use Rattle.mm_cli.specs.declared.words.SampleNumbers.{SampleNumbers}
 
 -- The greatest limit on sizes, which holds where none is given.
@@ -61,6 +61,7 @@ abbrev pub IsWithinBounds : Command → Type 0
 IsWithinBounds (Run limit) = (1 ≤ limit) × (limit ≤ most_limit)
 IsWithinBounds (Sample s) = AreWithinBounds s
 IsWithinBounds Build = Unit {0}
+IsWithinBounds Dual = Unit {0}
 IsWithinBounds NotBuilt = Unit {0}
 
 -- a command that is in the table and is not built yet
@@ -72,7 +73,8 @@ abbrev pub alone : List ℕ → Option Command
 alone word =
     if bytes_eq word (codes "run") then Some (Run most_limit)
     else if bytes_eq word (codes "build") then Some Build
-    else not_built (bytes_eq word (codes "dual") || bytes_eq word (codes "prove") || bytes_eq word (codes "verify"))
+    else if bytes_eq word (codes "dual") then Some Dual
+    else not_built (bytes_eq word (codes "prove") || bytes_eq word (codes "verify"))
 
 -- `run --limit=N`
 abbrev pub with_joined : List ℕ → List ℕ → Option Command

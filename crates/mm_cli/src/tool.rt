@@ -5,7 +5,7 @@ ghost use Rattle.mm_base.specs.declared.status.Status.TheVariants as ends;
 ghost use Rattle.mm_cli.specs.Owed.{Owed, reads};
 ghost use Rattle.mm_cli.specs.Words.{asked};
 
-use crate::building::build;
+use crate::building::{build, dual};
 use crate::reading::run;
 use crate::sampling::sample;
 use crate::words::{Command, command_of};
@@ -22,6 +22,7 @@ use std::sync::ledger::Ledger;
 ///   that were taken.
 /// - `sample` answers a job that it makes, and writes how many lines that gave, the first and the last. It reads nothing.
 /// - `build` answers the decomposition in the source with the header of the tree that is built for it, or with the refusal of its text.
+/// - `dual` likewise answers a header, which has no query, with the header of a tree of the dual matroid.
 /// - A command that is not built yet is refused, and words that ask for nothing are `Usage`; nothing is read then.
 ///
 /// `NoMemory` may come at any time, with a front of what is owed.
@@ -46,6 +47,7 @@ pub fn top<S: Source, K: Sink, L: Ledger>(
         Some(Command::Run(limit)) => run(alloc, limit, source, sink, steps),
         Some(Command::Sample(numbers)) => sample(alloc, numbers, sink, steps),
         Some(Command::Build) => build(alloc, source, sink),
+        Some(Command::Dual) => dual(alloc, source, sink),
         Some(Command::NotBuilt) => write(b"refused not-built\n", Status::Refused, sink),
         None => write(b"refused usage\n", Status::Usage, sink),
     }

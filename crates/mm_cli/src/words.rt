@@ -38,6 +38,8 @@ pub enum Command {
     Sample(SampleNumbers),
     /// `build`: the tree for the decomposition in the source.
     Build,
+    /// `dual`: a tree of the dual matroid of the tree in the source.
+    Dual,
     /// A command of the table that is not built yet.
     NotBuilt,
 }
@@ -106,7 +108,10 @@ fn alone(word: &[u8]) -> Option<Command>
     if is_text(word, b"build") {
         return Some(Command::Build);
     }
-    not_built(is_text(word, b"dual") || is_text(word, b"prove") || is_text(word, b"verify"))
+    if is_text(word, b"dual") {
+        return Some(Command::Dual);
+    }
+    not_built(is_text(word, b"prove") || is_text(word, b"verify"))
 }
 
 /// `run --limit=N`.

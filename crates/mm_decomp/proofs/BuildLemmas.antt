@@ -9,7 +9,6 @@ use Rattle.std.proofs.lemmas.Option.{none-some}
 use Rattle.std.proofs.lemmas.List.{reverse-append, reverse-reverse, length-reverse, get_or_append_left, get_or_push, take_at}
 use Rattle.mm_base.proofs.NameLemmas.{bytes_same}
 use Rattle.mm_linear.proofs.ReducedEchelonLemmas.{reverse-cons}
-use Rattle.mm_ops.specs.Tables.{refusal_of}
 use Rattle.std.proofs.lemmas.List.Elements.{All-nil, All-cons, All-append, All-head, All-tail}
 use Rattle.mm_field.specs.declared.Field.{Field}
 use Rattle.mm_field.specs.Digits.{order}
@@ -18,7 +17,7 @@ use Rattle.mm_linear.specs.ReducedEchelon.{reduced_basis}
 use Rattle.mm_logic.specs.Operator.{Op}
 use Rattle.mm_ops.specs.OpValue.{OpValue}
 use Rattle.mm_ops.specs.Tables.{OperatorList, op_named, has_name}
-use Rattle.mm_tree.specs.Building.{BuilderValue, AreOver, joined}
+use Rattle.mm_tree.specs.Building.{BuilderValue, joined}
 use Rattle.mm_tree.specs.NamedTree as named
 use Rattle.mm_tree.specs.NamedTree.{Tree}
 use Rattle.mm_decomp.specs.BuiltTree.{first_digit, built_operator, join_name}
@@ -78,10 +77,10 @@ pub leaf_added : (c : LeafColumns) (shapes : List Shape) (old new : Building) (f
     h ≡ get_or c.hs (leaves_in shapes) [] → m ≡ get_or c.ms (leaves_in shapes) [] → length h ≡ c.k → length m ≡ c.g →
     IsLeafForm old.field (length h) (length m) h m form → new.field ≡ old.field →
     new.builder ≡ record old.builder { trees = named.Tree.Elem name (first_digit m) weight ∷ old.builder.trees } →
-    new.forms.items ≡ old.forms.items ++ form ∷ [] → new.ops ≡ old.ops → new.leaves ≡ old.leaves + 1 → new.joins ≡ old.joins →
+    new.forms.items ≡ old.forms.items ++ form ∷ [] → new.leaves ≡ old.leaves + 1 → new.joins ≡ old.joins →
     IsBuilding c (Leaf name weight ∷ shapes) new
 unfolding leaves joins made_tree found_boundaries
-leaf_added c shapes old new form h m name weight b lh lm eh em ek eg r ef eb efs eo el ej =
+leaf_added c shapes old new form h m name weight b lh lm eh em ek eg r ef eb efs el ej =
     let p = leaves_in shapes in
     let lf : IsLeafForm c.f c.k c.g h m form =
     subst (λ (x : Field). IsLeafForm x c.k c.g h m form) b.field
@@ -95,7 +94,6 @@ leaf_added c shapes old new form h m name weight b lh lm eh em ek eg r ef eb efs
           ap (λ (x : BuilderValue). x.trees) eb
           ∙ ap₂ (λ (d : List ℕ) (ts : List Tree). named.Tree.Elem name (first_digit d) weight ∷ ts) em b.trees;
       forms = subst (λ fs. AreFormsOf c (Leaf name weight ∷ shapes) fs) (sym (ap reverse efs ∙ reverse-append old.forms.items (form ∷ []))) (at, b.forms);
-      over = subst (λ o. AreOver c.f o) (sym eo) b.over;
       leaves = el ∙ ap (λ n. n + 1) b.leaves;
       joins = ej ∙ b.joins ∙ omega arith;
       narrow = All-append (λ t. t ≤ 6) (boundaries_in c shapes) _ b.narrow
@@ -157,31 +155,6 @@ rest_forms forms w form =
     ∙ ap (λ xs. form ∷ reverse xs)
     (ap₂ take k (w.items ∙ append_assoc (reverse w.rest) (w.left ∷ []) (w.right ∷ [])) ∙ take_at (reverse w.rest) (w.left ∷ w.right ∷ []) (length (reverse w.rest)) refl)
     ∙ ap (λ xs. form ∷ xs) (reverse-reverse w.rest)
-
--- ---- operators by name
-
-pub named_last : (name : List ℕ) (op : OpValue) (entries : OperatorList) → has_name name entries ≡ false →
-    op_named name (entries ++ (name, op) ∷ []) ≡ Some op
-named_last name op [] h = ap (λ (b : Bool). if b then Some op else None) (bytes_same name)
-named_last name op (entry ∷ entries) h = go (bytes_eq name entry.0) refl (named_last name op entries)
-  where
-    go : (b : Bool) → bytes_eq name entry.0 ≡ b → (has_name name entries ≡ false → op_named name (entries ++ (name, op) ∷ []) ≡ Some op) →
-        op_named name (entry ∷ (entries ++ (name, op) ∷ [])) ≡ Some op
-    go true e ih = absurd (both_ways (has_name name (entry ∷ entries)) h (ap (λ (b : Bool). b || has_name name entries) e))
-    go false e ih =
-        ap (λ (b : Bool). if b then Some entry.1 else op_named name (entries ++ (name, op) ∷ [])) e
-        ∙ ih (sym (ap (λ (b : Bool). b || has_name name entries) e) ∙ h)
-
-none_if : {A : Type 0} (b : Bool) (x : A) (y : Option A) → (if b then Some x else y) ≡ None → b ≡ false
-none_if true x y h = absurd (none-some x (sym h))
-none_if false x y h = refl
-
-pub none_named : (name : List ℕ) (entries : OperatorList) → refusal_of name entries ≡ None → has_name name entries ≡ false
-none_named name entries h = none_if (has_name name entries) _ _ h
-
-pub over_more : (f : Field) (entries : OperatorList) (name : List ℕ) (op : OpValue) → AreOver f entries → op.f ≡ f → AreOver f (entries ++ (name, op) ∷ [])
-over_more f [] name op h e = (e, tt)
-over_more f (entry ∷ entries) name op h e = (h.0, over_more f entries name op h.1 e)
 
 -- ---- a join
 
@@ -261,7 +234,6 @@ join_made c left right shapes old new made w b j puts =
           ∙ ap₂ (λ (n : ℕ) (o : Op). named.Tree.Join (join_name n) o (made_tree c (joins_in shapes) p left)
           (made_tree c (joins_in shapes + joins left) (p + leaves left) right) ∷ made_trees c shapes) number op;
       forms = subst (λ fs. AreFormsOf c (Join left right ∷ shapes) fs) (sym (ap reverse puts.forms ∙ rest_forms old.forms.items w made.form)) (at, last.others);
-      over = subst (λ (f : Field). AreOver f new.ops) b.builder_field puts.over;
       leaves = puts.leaves ∙ b.leaves ∙ omega arith;
       joins = puts.joins ∙ ap (λ n. n + 1) b.joins ∙ omega arith;
       narrow =

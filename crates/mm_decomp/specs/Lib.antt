@@ -15,3 +15,5 @@ pub mod BuildStates
 pub mod BuildTexts
 pub mod BuildOutput
 pub mod Duals
+pub mod GivenTrees
+pub mod DualOutput

@@ -1,11 +1,13 @@
 -- What each step does to a tree while it is built: between the code and the definitions.
-use Rattle.std.specs.Prelude.{ℕ, ◌+◌, ◌-◌, ◌<◌, ◌≡◌, ◌≤◌, ℤ, List, [], ◌∷◌, ◌++◌, length, reverse, take, slice_index_or, All, Ok, Err, Some, nat_lt}
+use Rattle.std.specs.Prelude.{ℕ, ◌+◌, ◌-◌, ◌<◌, ◌≡◌, ◌≤◌, ℤ, List, [], ◌∷◌, ◌++◌, length, reverse, take, slice_index_or, All, Ok, Err, Some, false, max, nat_le, nat_lt}
 use Rattle.std.specs.List.{position}
 use Rattle.std.specs.declared.result.Result.{Result}
 use Rattle.mm_field.specs.declared.Field.{Field}
 use Rattle.mm_linear.specs.ReducedEchelon.{IsReducedBasis}
 use Rattle.mm_matrix.specs.MatrixValue.{MatrixValue}
-use Rattle.mm_tree.specs.Building.{AreOver, joined}
+use Rattle.mm_tree.specs.Building.{joined}
+use Rattle.mm_tree.specs.NamedTree.{Tree, boundary, depth}
+use Rattle.mm_tree.specs.ValidTree.{most_depth}
 use Rattle.mm_tree.specs.TreeValue.{TreeValue}
 use Rattle.mm_decomp.specs.BuiltTree.{built_operator, join_name}
 use Rattle.mm_decomp.specs.Forms.{HasSizes, IsJoinForm}
@@ -29,7 +31,6 @@ pub record IsBuilding (c : LeafColumns) (shapes : List Shape) (b : Building) : T
   pub builder_field : b.builder.f ≡ c.f
   pub trees : b.builder.trees ≡ made_trees c shapes
   pub forms : AreFormsOf c shapes (reverse b.forms.items)
-  pub over : AreOver c.f b.ops
   pub leaves : b.leaves ≡ leaves_in shapes
   pub joins : b.joins ≡ joins_in shapes
   pub narrow : All (λ t. t ≤ 6) (boundaries_in c shapes)
@@ -47,6 +48,12 @@ pub record Fit (left right : Form) : Type 0 where
 abbrev pub LastFit : List Form → Type 0
 LastFit (right ∷ left ∷ forms) = Fit left right
 LastFit _ = ⊥
+
+-- The last two trees have the boundaries of the last two forms, and may be joined.
+abbrev pub TreesFit : List Form → List Tree → Type 0
+TreesFit (right ∷ left ∷ forms) (r ∷ l ∷ trees) =
+    (boundary l ≡ length left.basis.rows) × (boundary r ≡ length right.basis.rows) × (nat_le most_depth (max (depth l) (depth r)) ≡ false)
+TreesFit _ _ = ⊥
 
 -- The form of a join, and its operator; the step of the join where its boundary is above 6.
 pub record IsWide (left right : Form) : Type 0 where
@@ -75,7 +82,6 @@ AreOf f forms = All (λ form. form.basis.f ≡ f) forms
 pub record PutsJoin (old new : Building) (made : Joined) : Type 0 where
   pub field : new.field ≡ old.field
   pub builder : new.builder ≡ record old.builder { trees = joined (join_name (old.joins + 1)) made.op old.builder.trees }
-  pub over : AreOver old.builder.f new.ops
   pub forms : new.forms.items ≡ take (length old.forms.items - 2) old.forms.items ++ made.form ∷ []
   pub leaves : new.leaves ≡ old.leaves
   pub joins : new.joins ≡ old.joins + 1
@@ -102,7 +108,6 @@ pub record IsNew (f : Field) (b : Building) : Type 0 where
   pub field : b.field ≡ f
   pub builder : (b.builder.f ≡ f) × (b.builder.trees ≡ [])
   pub forms : b.forms.items ≡ []
-  pub ops : b.ops ≡ []
   pub leaves : b.leaves ≡ 0
   pub joins : b.joins ≡ 0
 

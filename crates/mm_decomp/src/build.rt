@@ -1,13 +1,14 @@
 //! Trees built for a decomposition.
 
-ghost use Rattle.std.specs.Prelude.{◌≡◌, ◌≤◌, ◌<◌, ◌+◌, ◌^◌, [], ◌∷◌, length, nat_abs, reverse, take, IfOk, OnOk};
+ghost use Rattle.std.specs.Prelude.{◌≡◌, ◌≤◌, ◌<◌, ◌+◌, ◌^◌, [], ◌∷◌, length, nat_abs, reverse, take, None, IfOk, OnOk};
 ghost use Rattle.mm_field.specs.Vectors.{IsVector};
-ghost use Rattle.mm_tree.specs.Building.{AreOver};
+ghost use Rattle.mm_ops.specs.Tables.{op_named};
+ghost use Rattle.mm_tree.specs.Building.{AreOver, join_fault, joined_by, leaf_fault, named_fault};
 ghost use Rattle.mm_tree.specs.ValidTree.{most_weight};
 ghost use Rattle.mm_decomp.specs.Building.{AreLeaves, BuildsFrom, given_of, no_memory};
 ghost use Rattle.mm_decomp.specs.BuiltTree.{join_name};
 ghost use Rattle.mm_decomp.specs.Shapes.{AreSteps, IsShape, after_steps};
-ghost use Rattle.mm_decomp.specs.Steps.{AddsLeaf, AreColumnsFor, AreOf, Fit, IsBuilding, IsNew, Joins, JoinsLast, LastFit, MakesTree, PutsJoin, TakesStep, leaf_columns_of};
+ghost use Rattle.mm_decomp.specs.Steps.{AddsLeaf, AreColumnsFor, AreOf, Fit, IsBuilding, IsNew, Joins, JoinsLast, LastFit, MakesTree, PutsJoin, TakesStep, TreesFit, leaf_columns_of};
 
 use crate::columns::{dependencies, leaf_columns};
 use crate::form::Form;
@@ -16,8 +17,8 @@ use crate::{Shape, Step};
 use mm_base::{Name, NameList, NoMemory};
 use mm_field::Field;
 use mm_matrix::Matrix;
-use mm_ops::{Op, OpTable};
-use mm_tree::{Builder, Tree};
+use mm_ops::{Op, OpTable, OpTableFault};
+use mm_tree::{BuildFault, Builder, Tree};
 use std::alloc::Global;
 use thiserror::Error;
 
@@ -50,13 +51,12 @@ struct Joined {
     op: Op,
 }
 
-/// What was made of the steps so far: the trees and forms that are not joined yet, the last one at the end, and the operators.
+/// What was made of the steps so far: the trees and forms that are not joined yet, the last one at the end.
 #[derive(Drop)]
 struct Building {
     field: Field,
     builder: Builder,
     forms: Vec<Form>,
-    ops: OpTable,
     leaves: usize,
     joins: usize,
 }
@@ -67,6 +67,37 @@ fn join_name(alloc: Global, number: u32) -> Result<Name, NoMemory>
 {
     let text = format!(in alloc; "j{number}")?;
     Ok(Name::read(text.as_bytes()).unwrap())
+}
+
+/// A table with one operator.
+fn table_of(alloc: Global, name: Name, op: Op) -> Result<OpTable, NoMemory>
+    ensures { IfOk result (λ table. table ≡ (name, op) ∷ []) }
+{
+    let mut table = OpTable::new(alloc);
+    match table.add(alloc, name, op) {
+        Ok(()) => Ok(table),
+        Err(OpTableFault::NoMemory) => Err(NoMemory),
+        Err(_) => unreachable!(),
+    }
+}
+
+/// Joins the last two trees by the operator of a name, which fits them.
+fn join_trees(
+    alloc: Global,
+    builder: &mut Builder,
+    table: &OpTable,
+    name: &Name,
+) -> Result<(), NoMemory>
+    requires over { AreOver builder.old.f table.now }
+    requires fits { named_fault name.now (op_named name.now table.now) builder.old.trees ≡ None }
+    ensures { OnOk result
+        (builder.new ≡ record builder.old { trees = joined_by name.now (op_named name.now table.now) builder.old.trees }) }
+{
+    match builder.join(alloc, table, name) {
+        Ok(()) => Ok(()),
+        Err(BuildFault::NoMemory) => Err(NoMemory),
+        Err(_) => unreachable!(),
+    }
 }
 
 /// The form of the join of two forms, and its operator. `step` is the number of the join.
@@ -97,13 +128,16 @@ impl Building {
         requires field { self.old.builder.f ≡ self.old.field }
         requires light { nat_abs weight ≤ most_weight }
         requires few { self.old.leaves < 2 ^ 32 }
+        requires free { leaf_fault name self.old.builder.trees ≡ None }
         ensures { OnOk result (AddsLeaf self.old self.new functional.now column.now name weight) }
     {
         let form = Form::leaf(alloc, self.field, functional, column)?;
         let digit = first_digit(self.field, column);
-        let Ok(()) = self.builder.elem(alloc, name, digit, weight) else {
-            return Err(NoMemory);
-        };
+        match self.builder.elem(alloc, name, digit, weight) {
+            Ok(()) => {}
+            Err(BuildFault::NoMemory) => return Err(NoMemory),
+            Err(_) => unreachable!(),
+        }
         self.forms.push(form)?;
         self.leaves += 1;
         Ok(())
@@ -114,19 +148,15 @@ impl Building {
     /// Puts a join in the place of the last two shapes.
     fn put_join(&mut self, alloc: Global, joined: Joined) -> Result<(), NoMemory>
         requires two { 2 ≤ length self.old.forms.items }
-        requires over { AreOver self.old.builder.f self.old.ops }
         requires field { joined.op.f ≡ self.old.builder.f }
+        requires fits { join_fault joined.op self.old.builder.trees ≡ None }
         requires few { self.old.joins < 4096 }
         ensures { OnOk result (PutsJoin self.old self.new joined) }
     {
         let Joined { form, op } = joined;
         let name = join_name(alloc, self.joins as u32 + 1)?;
-        let Ok(()) = self.ops.add(alloc, name, op) else {
-            return Err(NoMemory);
-        };
-        let Ok(()) = self.builder.join(alloc, &self.ops, &name) else {
-            return Err(NoMemory);
-        };
+        let table = table_of(alloc, name, op)?;
+        join_trees(alloc, &mut self.builder, &table, &name)?;
         self.forms.truncate(self.forms.len() - 2);
         self.forms.push(form)?;
         self.joins += 1;
@@ -136,7 +166,7 @@ impl Building {
     /// Joins the last two shapes. `step` is the number of the join.
     fn join(&mut self, alloc: Global, step: u32) -> Result<(), DecompFault>
         requires fit { LastFit (reverse self.old.forms.items) }
-        requires over { AreOver self.old.field self.old.ops }
+        requires trees { TreesFit (reverse self.old.forms.items) self.old.builder.trees }
         requires field { self.old.builder.f ≡ self.old.field }
         requires same { AreOf self.old.field (reverse self.old.forms.items) }
         requires few { self.old.joins < 4096 }
@@ -162,7 +192,6 @@ impl Building {
             field,
             builder: Builder::new(alloc, field),
             forms: Vec::new(alloc),
-            ops: OpTable::new(alloc),
             leaves: 0,
             joins: 0,
         }

@@ -1,18 +1,21 @@
 -- The boundary of a join is the connectivity of the columns below and outside it.
-use Rattle.std.proofs.Common.{ℕ, ◌<◌, ◌≡◌, List, [], ◌∷◌, ◌++◌, length, get_or, sym, ap, ap₂, ◌∙◌, subst, arith}
+use Rattle.std.proofs.Common.{ℕ, ◌<◌, ◌≡◌, Bool, true, false, ◌==◌, ◌&&◌, List, [], ◌∷◌, ◌++◌, length, get_or, refl, sym, ap, ap₂, ◌∙◌, subst, arith}
+use Rattle.std.specs.Prelude.{if◌then◌else◌}
+use Rattle.std.specs.List.{list_all}
 use Rattle.std.proofs.lemmas.List.{map-append}
 use Rattle.std.proofs.lemmas.List.Elements.{All-nil, All-append}
 use Rattle.mm_field.specs.declared.Field.{Field}
 use Rattle.mm_field.specs.Vectors.{IsVector, AreVectors, InSpan, IsWithin}
 use Rattle.mm_field.proofs.CombinationLemmas.{first_row, IsWithin-itself, IsWithin-within}
 use Rattle.mm_linear.proofs.ReducedEchelonLemmas.{reduced_basis-same}
+use Rattle.mm_decomp.specs.BuiltTree.{first_digit}
 use Rattle.mm_decomp.specs.Shapes.{Shape, names}
 use Rattle.mm_decomp.specs.Shapes.Shape.{Leaf, Join}
 use Rattle.mm_decomp.specs.Spaces.{Given, boundaries, column_of, space}
 use Rattle.mm_decomp.proofs.GivenLemmas.{AreColumns, columns_of, named_columns}
-use Rattle.mm_decomp_laws.specs.Ranks.{IsOver, connectivities, connectivity, rank, rank_of}
+use Rattle.mm_decomp_laws.specs.Ranks.{IsOver, connectivities, connectivity, rank, rank_of, rank_of_column}
 use Rattle.mm_decomp_laws.proofs.IndependenceLemmas.{in_front, in_back}
-use Rattle.mm_decomp_laws.proofs.LeafBasisLemmas.{leaf_basis, count_first_digit}
+use Rattle.mm_decomp.proofs.LeafBasisLemmas.{leaf_basis}
 use Rattle.mm_decomp_laws.proofs.RankSumLemmas.{dimension_of_sum}
 use Rattle.mm_decomp_laws.proofs.SpaceLemmas.{both_columns, split_columns, in_both, in_space, space_independent, space_reduced}
 
@@ -93,6 +96,16 @@ join_boundary given all outside left right h ho hj s =
     ap length (reduced_basis-same f g (B ++ O) (columns_of given all) both s.each
     (All-append (λ v. InSpan f g (columns_of given all) v) B O s.below_in s.outside_in, s.all_in)) in
     omega (arith, sum, same)
+
+-- a column that is not zero has one first digit
+count_first_digit : (column : List ℕ) → length (first_digit column) ≡ rank_of_column column
+count_first_digit [] = refl
+count_first_digit (d ∷ column) = go (d == 0) (count_first_digit column)
+  where
+    go : (b : Bool) → length (first_digit column) ≡ rank_of_column column →
+        length (if b then first_digit column else d ∷ []) ≡ (if b && list_all (λ d. d == 0) column then 0 else 1)
+    go true ih = ih
+    go false ih = refl
 
 pub boundaries_are : (given : Given) (all outside : List (List ℕ)) (s : Shape) → AreColumns given (names s) → AreColumns given outside →
     SplitsAt given all (names s) outside → boundaries given outside s ≡ connectivities given all outside s

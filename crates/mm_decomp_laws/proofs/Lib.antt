@@ -1,7 +1,6 @@
 pub mod IndependenceLemmas
 pub mod ExtendLemmas
 pub mod RankSumLemmas
-pub mod LeafBasisLemmas
 pub mod SpaceLemmas
 pub mod ConnectivityLemmas
 pub mod StandsForLemmas

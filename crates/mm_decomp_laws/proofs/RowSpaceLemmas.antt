@@ -24,7 +24,7 @@ use Rattle.mm_decomp.proofs.LeadLemmas.{AreVectors-columns}
 use Rattle.mm_decomp.proofs.GivenLemmas.{AreColumns, columns_of, named_columns, rows_in_order}
 use Rattle.mm_decomp_laws.specs.Ranks.{IsOver}
 use Rattle.mm_decomp_laws.specs.RowSpaces.{IsBuiltFor}
-use Rattle.mm_decomp_laws.proofs.LeafBasisLemmas.{leaf_basis}
+use Rattle.mm_decomp.proofs.LeafBasisLemmas.{leaf_basis}
 use Rattle.mm_decomp_laws.proofs.SpaceLemmas.{both_columns, split_columns, space_independent, space_reduced, space_within_sum, children_meet}
 use Rattle.mm_decomp_laws.proofs.StandsForLemmas.{StandsFor, stands_for_join}
 

@@ -133,6 +133,83 @@ fn decompositions_give_their_headers(rt: HostRuntime) -> Result<(), Fail> {
     Ok(())
 }
 
+/// The text of a header without its query, what `dual` writes, and the status.
+const DUALS: [(&str, &str, u8); 10] = [
+    // the circuit, whose dual has one row
+    (
+        "mso 1\nfield 2\nelements a b c\nrow 101\nrow 011\nop j 1 1 2 0 10 01\nop k 2 1 0 2 10/01 11\ntree\nelem a 1 5\nelem b 1 5\njoin j\nelem c 1 5\njoin k\nend\n",
+        "mso 1\nfield 2\nelements a b c\nrow 111\nop j1 1 1 1 0 1 1\nop j2 1 1 0 1 1 1\ntree\nelem a 1 5\nelem b 1 5\njoin j1\nelem c 1 5\njoin j2\nend\n",
+        0,
+    ),
+    // no elements
+    (
+        "mso 1\nfield 3\ntree\nvoid w 2\nend\n",
+        "mso 1\nfield 3\ntree\nvoid v 0\nend\n",
+        0,
+    ),
+    // a query after the tree
+    (
+        "mso 1\nfield 2\nelements a b c\nrow 101\nrow 011\nop j 1 1 2 0 10 01\nop k 2 1 0 2 10/01 11\ntree\nelem a 1 5\nelem b 1 5\njoin j\nelem c 1 5\njoin k\nend\ndecide ind(*)\n",
+        "refused syntax 15\n",
+        1,
+    ),
+    // a third boundary of its own
+    (
+        "mso 2\nfield 2\nelements a b c\nrow 101\nrow 110\nop g 1 1 1 1 10 01 11\nop h 1 1 0 1 1 1 .\ntree\nelem a 1 1\nelem b 1 1\njoin g\nelem c 1 1\njoin h\nend\n",
+        "mso 1\nfield 2\nelements a b c\nrow 111\nop j1 1 1 1 0 1 1\nop j2 1 1 0 1 1 1\ntree\nelem a 1 1\nelem b 1 1\njoin j1\nelem c 1 1\njoin j2\nend\n",
+        0,
+    ),
+    (
+        "mso 1\nfield 2\nelements a b c\nrow 101\nrow 010\nop j 1 1 2 0 10 01\nop k 2 1 0 2 10/01 11\ntree\nelem a 1 5\nelem b 1 5\njoin j\nelem c 1 5\njoin k\nend\n",
+        "refused rowspace given 2\n",
+        1,
+    ),
+    (
+        "mso 1\nfield 2\nelements a b c\nrow 101\nop j 1 1 2 0 10 01\nop k 2 1 0 2 10/01 11\ntree\nelem a 1 5\nelem b 1 5\njoin j\nelem c 1 5\njoin k\nend\n",
+        "refused rowspace tree 2\n",
+        1,
+    ),
+    (
+        "mso 1\nfield 2\nelements a b d\nrow 101\nrow 011\nop j 1 1 2 0 10 01\nop k 2 1 0 2 10/01 11\ntree\nelem a 1 5\nelem b 1 5\njoin j\nelem c 1 5\njoin k\nend\n",
+        "refused elements d\n",
+        1,
+    ),
+    (
+        "mso 1\nfield 2\nelements a b c\nrow 101\nrow 011\nop j 1 1 2 0 10 01\nop k 2 1 0 2 10/01 11\ntree\nelem a 1 5\nelem b 1 5\njoin j\nelem c 1 5\njoin k\n",
+        "refused unfinished\n",
+        1,
+    ),
+    (
+        "mso 1\nfield 2\nelements a b c\nrow 101\nrow 011\nop j 1 1 2 0 10 01\nop k 2 1 0 2 10/01 11\ntree\nelem a 1 5\nelem b 1 5\njoin j\nelem c 1 5\nend\n",
+        "refused tree 13\n",
+        1,
+    ),
+    (
+        "",
+        "refused unfinished\n",
+        1,
+    ),
+];
+
+#[test]
+fn headers_give_those_of_their_duals(rt: HostRuntime) -> Result<(), Fail> {
+    let alloc = rt.alloc();
+    for (text, output, status) in DUALS {
+        for piece in [4096usize, 1, 7] {
+            let same = gives(
+                alloc,
+                "dual",
+                text.as_bytes(),
+                piece.max(1),
+                output,
+                status,
+            )?;
+            assert!(rt; same, "{text} in pieces of {piece}");
+        }
+    }
+    Ok(())
+}
+
 #[test]
 fn a_built_header_is_that_of_a_job(rt: HostRuntime) -> Result<(), Fail> {
     let alloc = rt.alloc();

@@ -194,7 +194,7 @@ const WORDS: [(&str, bool); 16] = [
     ("minor 2 111111", false),
     ("minor 2 .", false),
     ("minor 02 10/1", false),
-    ("dual", true),
+    ("dual x", false),
     ("prove", true),
     ("verify", true),
     ("minor 02 10/01", true),

@@ -1,7 +1,9 @@
 //! Texts of decompositions, and the headers of the trees that are built for them.
 
 use mm_base::{Name, Text, TextFault};
-use mm_decomp::{ShapeBuilder, ShapeFault, build_tree, read_build, shape_of, write_header};
+use mm_decomp::{
+    ShapeBuilder, ShapeFault, build_tree, dual_text, read_build, shape_of, write_header,
+};
 use std::alloc::Global;
 use std::process::Abort;
 use std::test::Fail;
@@ -90,6 +92,51 @@ fn a_text_is_refused(rt: HostRuntime) -> Result<(), Fail> {
     ];
     for (text, refusal) in cases {
         assert_eq!(rt; words(alloc, text).bytes(), refusal);
+    }
+    Ok(())
+}
+
+/// Three points on a line, each two of them independent, as a header without its query.
+const TRIANGLE: &[u8] =
+    b"mso 1\nfield 2\nelements a b c\nrow 101\nrow 011\nop j 1 1 2 0 10 01\nop k 2 1 0 2 10/01 11\n\
+tree\nelem a 1 5\nelem b 1 5\njoin j\nelem c 1 5\njoin k\nend\n";
+
+/// The header of its dual: three points in one place.
+const TRIANGLE_DUAL: &[u8] =
+    b"mso 1\nfield 2\nelements a b c\nrow 111\nop j1 1 1 1 0 1 1\nop j2 1 1 0 1 1 1\n\
+tree\nelem a 1 5\nelem b 1 5\njoin j1\nelem c 1 5\njoin j2\nend\n";
+
+#[test]
+fn a_header_becomes_its_dual(rt: HostRuntime) -> Result<(), Fail> {
+    let alloc = rt.alloc();
+    let dual = dual_text(alloc, TRIANGLE).expect(&rt, "a header");
+    assert_eq!(rt; dual.bytes(), TRIANGLE_DUAL);
+    let empty = dual_text(alloc, b"mso 1\nfield 3\ntree\nvoid w 2\nend\n").expect(&rt, "a header");
+    assert_eq!(rt; empty.bytes(), b"mso 1\nfield 3\ntree\nvoid v 0\nend\n");
+    Ok(())
+}
+
+/// The words by which a header is refused.
+fn header_words(alloc: Global, text: &[u8]) -> Text {
+    match dual_text(alloc, text) {
+        Err(TextFault::Refused(words)) => words,
+        _ => Text::new(alloc),
+    }
+}
+
+#[test]
+fn a_header_is_refused(rt: HostRuntime) -> Result<(), Fail> {
+    let alloc = rt.alloc();
+    let cases: [(&[u8], &[u8]); 3] = [
+        (b"mso 1\nfield 3\ntree\nvoid w 2\nend\nend\n", b"syntax 6"),
+        (
+            b"mso 1\nfield 3\nelements a\ntree\nvoid w 2\nend\n",
+            b"elements a",
+        ),
+        (b"mso 1\nfield 3\nelements a\n", b"unfinished"),
+    ];
+    for (text, refusal) in cases {
+        assert_eq!(rt; header_words(alloc, text).bytes(), refusal);
     }
     Ok(())
 }

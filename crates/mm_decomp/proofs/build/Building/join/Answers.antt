@@ -1,7 +1,11 @@
-use Rattle.std.proofs.Common.{ℕ, ◌≡◌, List, sym, ap, subst, ◌∙◌, arith, get_or, ◌-◌, ◌∷◌, Vec, Global, reverse}
+use Rattle.std.proofs.Common.{ℕ, ◌≡◌, None, [], List, sym, ap, subst, ◌∙◌, arith, get_or, ◌-◌, ◌∷◌, Vec, Global, reverse}
 use Rattle.mm_field.specs.declared.Field.{Field}
 use Rattle.mm_ops.specs.OpValue.{OpValue}
-use Rattle.mm_decomp.specs.Steps.{Fit, IsJoined, IsWide, AreOf, LastFit, Joins, JoinsLast}
+use Rattle.mm_tree.specs.Building.{join_fault}
+use Rattle.mm_tree.specs.NamedTree.{Tree}
+use Rattle.mm_decomp.specs.Steps.{Fit, IsJoined, IsWide, AreOf, LastFit, Joins, JoinsLast, TreesFit}
+use Rattle.mm_decomp.specs.declared.build.Joined.{Joined}
+use Rattle.mm_decomp.proofs.FaultLemmas.{pair_fits}
 use Rattle.mm_decomp.specs.declared.form.Form.{Form}
 use Rattle.mm_decomp.proofs.BuildLemmas.{EndsWith, ends_with, last_two, left_form, right_form, join_made, wide_space}
 use Rattle.mm_decomp.proofs.build.Building.join.Goals as goal
@@ -69,3 +73,22 @@ returns-in-Err c =
     fault_told c.args.self.now c.args.self.now w c.index.result.now c.index-2.result.now c.args.step c.in-Err.fault
     (is_left v c.requires.fit c.len-n.result c.index.result.now c.len-n.ensures c.index.ensures)
     (is_right v c.requires.fit c.len-n.result c.index-2.result.now c.len-n.ensures c.index-2.ensures) c.in-Err.ensures
+
+trees_fit_last : (forms : List Form) (w : EndsWith forms) (trees : List Tree) (made : Joined) → TreesFit (reverse forms) trees → IsJoined w.left w.right made →
+    join_fault made.op trees ≡ None
+trees_fit_last forms w trees made fit j = go trees (subst (λ fs. TreesFit fs trees) w.turned fit)
+  where
+    go : (trees : List Tree) → TreesFit (w.right ∷ w.left ∷ w.rest) trees → join_fault made.op trees ≡ None
+    go [] f = absurd f
+    go (t ∷ []) f = absurd f
+    go (r ∷ l ∷ ts) f =
+        pair_fits made.op l r (f.0 ∙ sym (ap (λ (o : OpValue). o.op.t1) j.operator)) (f.1 ∙ sym (ap (λ (o : OpValue). o.op.t2) j.operator)) f.2
+
+pub put_join-requires-clause-fits : goal.put_join-requires-clause-fits
+put_join-requires-clause-fits c =
+    let v = c.args.self.now.forms in
+    let w = ends_with v.items c.requires.fit in
+    trees_fit_last v.items w c.args.self.now.builder.trees c.in-Ok.joined c.requires.trees
+    (subst (λ l. IsJoined l w.right c.in-Ok.joined) (is_left v c.requires.fit c.len-n.result c.index.result.now c.len-n.ensures c.index.ensures)
+    (subst (λ r. IsJoined c.index.result.now r c.in-Ok.joined) (is_right v c.requires.fit c.len-n.result c.index-2.result.now c.len-n.ensures c.index-2.ensures)
+    c.in-Ok.ensures))

@@ -24,4 +24,4 @@ returns c k shapes b lh lm eh em ek eg =
     ∙ ap (λ (z : ℤ). record c.args.self.now.builder { trees = named.Tree.Elem c.args.name c.first_digit-digit.result z ∷ c.args.self.now.builder.trees })
     (to_z-of_z w64 c.args.weight c.ranges.weight)
     ∙ ap (λ (v : List ℕ). record c.args.self.now.builder { trees = named.Tree.Elem c.args.name v c.args.weight ∷ c.args.self.now.builder.trees }) c.first_digit-digit.ensures)
-    c.in_ok-push.ensures.items refl refl refl
+    c.in_ok-push.ensures.items refl refl

@@ -5,6 +5,7 @@ use Rattle.mm_decomp.specs.Shapes.Shape.{Leaf}
 use Rattle.mm_decomp.specs.Stack.{AreFormsOf}
 use Rattle.mm_decomp.specs.Steps.{IsBuilding, leaf_columns_of}
 use Rattle.mm_decomp.proofs.StepLemmas.{next_shapes, two_at, leaf_in, leaves_most, joins_and_leaves, forms_over, last_fit, two_last, takes_join, weight_light, weight_fits}
+use Rattle.mm_decomp.proofs.FaultLemmas.{leaf_free, trees_fit}
 use Rattle.mm_decomp.proofs.build.Building.step.Goals as goal
 
 pub row-requires : goal.row-requires
@@ -66,3 +67,17 @@ returns-in-Join c =
     let t = two_last shapes (two_at all c.args.i _ c.requires.place c.in-Join.is c.requires.shape.find_two) in
     takes_join k all c.args.i c.args.self.now c.join.new.self shapes t c.join.result refl (next_shapes all c.args.i steps.Join _ c.requires.place c.in-Join.is)
     c.requires.so_far c.join.ensures
+
+pub leaf-requires-clause-free : goal.leaf-requires-clause-free
+leaf-requires-clause-free c =
+    leaf_free (leaf_columns_of c.args.functionals.now c.args.columns.now) c.args.steps.now c.args.i _ c.in-Leaf.name c.in-Leaf.weight c.args.self.now c.requires.place
+    c.in-Leaf.is c.requires.shape c.requires.so_far
+
+pub join-requires-clause-trees : goal.join-requires-clause-trees
+join-requires-clause-trees c =
+    let k = leaf_columns_of c.args.functionals.now c.args.columns.now in
+    let shapes = after_steps [] (take c.args.i c.args.steps.now) in
+    let t = two_last shapes (two_at c.args.steps.now c.args.i _ c.requires.place c.in-Join.is c.requires.shape.find_two) in
+    let l = leaves_most c.args.steps.now c.args.i c.requires.shape.find_two in
+    trees_fit k c.args.steps.now c.args.i _ t.left t.right t.rest c.args.self.now c.requires.place c.in-Join.is c.requires.shape t.are c.requires.so_far
+    c.rows-2.ensures.each (omega (arith, l, c.requires.columns.count_columns))

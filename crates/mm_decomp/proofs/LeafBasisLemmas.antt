@@ -1,7 +1,5 @@
 -- The space of a leaf, by the first digit of its column.
-use Rattle.std.proofs.Common.{ℕ, zero, suc, ◌<◌, ◌≤◌, ◌≡◌, ◌≢◌, Bool, true, false, ◌==◌, ◌&&◌, List, [], ◌∷◌, length, take, get_or, refl, sym, ap, ◌∙◌, arith, ◌++◌}
-use Rattle.std.specs.Prelude.{if◌then◌else◌}
-use Rattle.std.specs.List.{list_all}
+use Rattle.std.proofs.Common.{ℕ, zero, suc, ◌<◌, ◌≤◌, ◌≡◌, ◌≢◌, Bool, true, false, ◌==◌, List, [], ◌∷◌, length, take, get_or, refl, sym, ap, ◌∙◌, arith, ◌++◌}
 use Rattle.std.proofs.lemmas.Bool.{eqb-true}
 use Rattle.std.proofs.lemmas.List.{get_or-replicate}
 use Rattle.std.proofs.lemmas.List.Elements.{All-nil, All-cons, All-head}
@@ -17,7 +15,6 @@ use Rattle.mm_linear.proofs.ReducedEchelonLemmas.{reduced_basis_is}
 use Rattle.mm_decomp.specs.BuiltTree.{first_digit}
 use Rattle.mm_decomp.proofs.FirstDigitLemmas.{first_digit_none, first_digit_at}
 use Rattle.mm_decomp.proofs.RankLemmas.{basis_is_few}
-use Rattle.mm_decomp_laws.specs.Ranks.{rank_of_column}
 
 -- a column has one digit in the basis of its span, and a zero column none
 pub record IsLeafBasis (f : Field) (g : ℕ) (m : List ℕ) (basis : List (List ℕ)) : Type 0 where
@@ -116,12 +113,3 @@ leaf_basis f g m hm =
     go (u ∷ []) (k ∷ ks) h ls p w few =
         one_row u k (first_row f g u [] h) ls.1 ls.2 (All-head (λ v. InSpan f g (m ∷ []) v) u [] w) p.coefficients p.each p.sum
     go (u ∷ v ∷ basis) leads h ls p w few = absurd (omega (arith, few))
-
-pub count_first_digit : (column : List ℕ) → length (first_digit column) ≡ rank_of_column column
-count_first_digit [] = refl
-count_first_digit (d ∷ column) = go (d == 0) (count_first_digit column)
-  where
-    go : (b : Bool) → length (first_digit column) ≡ rank_of_column column →
-        length (if b then first_digit column else d ∷ []) ≡ (if b && list_all (λ d. d == 0) column then 0 else 1)
-    go true ih = ih
-    go false ih = refl
