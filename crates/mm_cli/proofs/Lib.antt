@@ -1,6 +1,7 @@
 pub mod EndedLemmas
 pub mod OutputLemmas
 pub mod RunLemmas
+pub mod SpendingLemmas
 pub mod StepLemmas
 pub mod WholeLemmas
 pub mod WriteLemmas

@@ -29,7 +29,7 @@ over_full a e = le-leb (most_bytes + 1) (length a) (omega (arith, e))
 over_longer : (a b : List ℕ) → length a ≡ most_bytes + 1 → is_over (a ++ b) ≡ is_over a
 over_longer a b e = le-leb (most_bytes + 1) (length (a ++ b)) (omega (arith, e, length-append a b)) ∙ sym (over_full a e)
 
-same_lines : (a b : List ℕ) → length a ≡ most_bytes + 1 → lines (a ++ b) ≡ lines a
+pub same_lines : (a b : List ℕ) → length a ≡ most_bytes + 1 → lines (a ++ b) ≡ lines a
 unfolding lines
 same_lines a b e =
     ap (λ (c : Bool). lines_of (not c) (take most_bytes (a ++ b))) (over_longer a b e)

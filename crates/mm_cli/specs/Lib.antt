@@ -4,3 +4,4 @@ pub mod Going
 pub mod Answers
 pub mod Whole
 pub mod Owed
+pub mod Spending

@@ -5,6 +5,8 @@ ghost use Rattle.mm_lines.specs.Lines.{most_bytes};
 ghost use Rattle.mm_base.specs.Causes.{Rose};
 ghost use Rattle.mm_base.specs.declared.status.Status.TheVariants as ends;
 ghost use Rattle.mm_cli.specs.Runs.{Ran, cut, most_asked};
+ghost use Rattle.mm_cli.specs.Spending.{SpendsOnJob, SpendsOnRead};
+ghost use Rattle.mm_job.specs.Work.{settled_work};
 
 use mm_base::{Sink, Source, Status, Steps};
 use mm_job::{Job, JobFault, Progress};
@@ -59,7 +61,7 @@ fn read_piece<S: Source, K: Sink, L: Ledger>(
     ensures read_fault { result ≡ ReadStep.Stop ends.ReadFault → Rose (S.faults source.old) (S.faults source.new) }
     ensures write_later { K.faults sink.old ≤ K.faults sink.new }
     ensures write_fault { result ≡ ReadStep.Stop ends.WriteFault → Rose (K.faults sink.old) (K.faults sink.new) }
-    ensures steps { steps.new ≡ steps.old }
+    ensures steps { SpendsOnRead start.left job.old job.new steps.old steps.new result }
 {
     let Ok(count) = source.read(buffer) else {
         return ReadStep::Stop(Status::ReadFault);
@@ -94,7 +96,8 @@ fn read_pieces<S: Source, K: Sink, L: Ledger>(
     ensures read_fault { result ≡ Some ends.ReadFault → Rose (S.faults source.old) (S.faults source.new) }
     ensures write_later { K.faults sink.old ≤ K.faults sink.new }
     ensures write_fault { result ≡ Some ends.WriteFault → Rose (K.faults sink.old) (K.faults sink.new) }
-    ensures steps { steps.new ≡ steps.old }
+    ensures steps { IfSome result (λ s. SpendsOnJob job.old.limit start.left steps.old steps.new) }
+    ensures steps_so_far { IfNone result (steps.new ≤ steps.old + settled_work job.new.text job.old.limit) }
 {
     let mut buffer = [0u8; PIECE];
     let mut taken = 0;
@@ -122,7 +125,7 @@ fn answer<S: Source, K: Sink, L: Ledger>(
     ensures run { Ran job.old.limit (S.left source.old) (S.left source.new) (K.held sink.old) (K.held sink.new) result }
     ensures read_fault { result ≡ ends.ReadFault → Rose (S.faults source.old) (S.faults source.new) }
     ensures write_fault { result ≡ ends.WriteFault → Rose (K.faults sink.old) (K.faults sink.new) }
-    ensures steps { steps.new ≡ steps.old }
+    ensures steps { SpendsOnJob job.old.limit (S.left source.old) steps.old steps.new }
 {
     if let Some(status) = read_pieces(alloc, job, source, sink, steps) {
         return status;
@@ -146,7 +149,7 @@ pub fn run<S: Source, K: Sink, L: Ledger>(
     ensures run { Ran limit (S.left source.old) (S.left source.new) (K.held sink.old) (K.held sink.new) result }
     ensures read_fault { result ≡ ends.ReadFault → Rose (S.faults source.old) (S.faults source.new) }
     ensures write_fault { result ≡ ends.WriteFault → Rose (K.faults sink.old) (K.faults sink.new) }
-    ensures steps { steps.new ≡ steps.old }
+    ensures steps { SpendsOnJob limit (S.left source.old) steps.old steps.new }
 {
     let mut job = Job::new(alloc, limit);
     answer(alloc, &mut job, source, sink, steps)

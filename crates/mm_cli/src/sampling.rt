@@ -3,8 +3,9 @@ ghost use Rattle.std.specs.Prelude.{◌≡◌, ◌⊎◌, [], IfOk};
 ghost use Rattle.mm_base.specs.Causes.{Rose};
 ghost use Rattle.mm_base.specs.declared.status.Status.TheVariants as ends;
 ghost use Rattle.mm_job.specs.Output.{end_of, output};
-ghost use Rattle.mm_cli.specs.Answers.{Writes, sample};
+ghost use Rattle.mm_cli.specs.Answers.{Writes, sample, sample_job};
 ghost use Rattle.mm_cli.specs.Runs.{IsCut, IsEnd};
+ghost use Rattle.mm_cli.specs.Spending.{IsWithinBound};
 ghost use Rattle.mm_cli.specs.Words.{AreWithinBounds, most_limit};
 
 use crate::reading::run;
@@ -25,7 +26,7 @@ fn answer_job<L: Ledger>(
     requires { sink.old ≡ [] }
     ensures output { IfOk result (λ status. sink.new ≡ output text.now most_limit) }
     ensures status { IfOk result (λ status. status ≡ end_of text.now most_limit) }
-    ensures steps { steps.new ≡ steps.old }
+    ensures steps { IsWithinBound text.now most_limit steps.old steps.new }
 {
     let mut source = SureSource::new(alloc, text)?;
     match run(alloc, MOST_LIMIT, &mut source, sink, steps) {
@@ -50,7 +51,7 @@ fn shorten<L: Ledger>(
 ) -> Result<Short, NoMemory>
     requires { AreWithinBounds numbers }
     ensures short { IfOk result (λ short. sample numbers ≡ record { output = short.text; status = short.status }) }
-    ensures steps { steps.new ≡ steps.old }
+    ensures steps { IsWithinBound (sample_job numbers) most_limit steps.old steps.new }
 {
     let job = sample_text(alloc, numbers.field, numbers.elements, numbers.seed)?;
     let mut sink = SureSink::new(alloc);
@@ -71,7 +72,7 @@ pub fn sample<K: Sink, L: Ledger>(
     ensures ends { IsEnd result ⊎ IsCut result }
     ensures read_fault { result ≡ ends.ReadFault → ⊥ }
     ensures write_fault { result ≡ ends.WriteFault → Rose (K.faults sink.old) (K.faults sink.new) }
-    ensures steps { steps.new ≡ steps.old }
+    ensures steps { IsWithinBound (sample_job numbers) most_limit steps.old steps.new }
 {
     match shorten(alloc, numbers, steps) {
         Ok(short) => write(short.text.bytes(), short.status, sink),

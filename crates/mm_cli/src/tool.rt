@@ -3,6 +3,7 @@ ghost use Rattle.std.specs.Prelude.{◌≡◌, false, None};
 ghost use Rattle.mm_base.specs.Causes.{Rose};
 ghost use Rattle.mm_base.specs.declared.status.Status.TheVariants as ends;
 ghost use Rattle.mm_cli.specs.Owed.{Owed, reads};
+ghost use Rattle.mm_cli.specs.Spending.{Spends};
 ghost use Rattle.mm_cli.specs.Words.{asked};
 
 use crate::building::{build, dual};
@@ -41,7 +42,9 @@ pub fn top<S: Source, K: Sink, L: Ledger>(
     // A fault comes only where it was counted.
     ensures read_fault { result ≡ ends.ReadFault → Rose (S.faults source.old) (S.faults source.new) }
     ensures write_fault { result ≡ ends.WriteFault → Rose (K.faults sink.old) (K.faults sink.new) }
-    ensures steps { steps.new ≡ steps.old }
+
+    // The steps of a job are within the bound on its work, and the other commands take none.
+    ensures steps { Spends (asked words.now.items) (S.left source.old) steps.old steps.new }
 {
     match command_of(words) {
         Some(Command::Run(limit)) => run(alloc, limit, source, sink, steps),

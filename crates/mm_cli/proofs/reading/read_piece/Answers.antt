@@ -2,11 +2,14 @@ use Rattle.std.proofs.Common.{◌≡◌, ◌≤◌, ◌<◌, ◌+◌, ◌++◌, 
 use Rattle.std.proofs.lemmas.Grind.{common_steps}
 use Rattle.mm_lines.specs.Lines.{most_bytes}
 use Rattle.mm_base.specs.declared.status.Status.TheVariants as ends
+use Rattle.mm_job.specs.Calls.{SpendsOnText}
 use Rattle.mm_job.specs.Jobs.{with_piece}
+use Rattle.mm_job.specs.Work.{settled_work}
 use Rattle.mm_cli.specs.Runs.{Ran, most_asked}
 use Rattle.mm_cli.specs.Going.{SoFar}
 use Rattle.mm_cli.proofs.StepLemmas.{stop_is, more_is, more_ok, more_goes_on}
 use Rattle.mm_cli.proofs.RunLemmas.{not_a_fault, ran_read_fault, further, ran_ended, ran_stopped, whole_piece}
+use Rattle.mm_cli.proofs.SpendingLemmas.{spent_on_nothing, spent_on_piece}
 use Rattle.mm_cli.proofs.reading.read_piece.Goals as goal
 
 pub returns-in_default-clause-came : goal.returns-in_default-clause-came
@@ -61,3 +64,31 @@ returns-in-Ok-Ended-clause-read_fault g c = λ e. absurd (not_a_fault c.args.job
 
 pub returns-in-Ok-Ended-clause-write_fault : goal.returns-in-Ok-Ended-clause-write_fault
 returns-in-Ok-Ended-clause-write_fault g c = λ e. absurd (not_a_fault c.args.job.now.limit (with_piece c.args.job.now.text (take c.in-Ok.count c.read.new.buf)) c.in-Ok-Ended.status (sym c.in-Ok-Ended.ensures.progress ∙ c.in-Ok-Ended.field-0-is) (inr (inl (stop_is c.in-Ok-Ended.status ends.WriteFault e))))
+
+pub returns-in_default-clause-steps : goal.returns-in_default-clause-steps
+returns-in_default-clause-steps g c =
+    let j = c.args.job.now in
+    spent_on_nothing j.limit g.start.left (g.S.Source.left c.args.source.now) g.start.held (g.K.Sink.held c.args.sink.now) j.text c.args.steps.now c.requires.1.1.1.1.1.1.1
+
+pub returns-in-Ok-Ended-clause-steps : goal.returns-in-Ok-Ended-clause-steps
+returns-in-Ok-Ended-clause-steps g c =
+    let j = c.args.job.now in
+    let piece = take c.in-Ok.count c.read.new.buf in
+    let room : length j.text + length piece ≤ most_bytes + 1 = grind (arith, common_steps) in
+    spent_on_piece j.limit g.start.left (g.S.Source.left c.args.source.now) (g.S.Source.left c.read.new.self) g.start.held (g.K.Sink.held c.args.sink.now)
+    j.text piece c.args.steps.now c.feed.new.steps c.requires.1.1.1.1.1.1.1 c.in-Ok.ensures.bytes.0 room c.feed.ensures.steps
+
+pub returns-in-Err-clause-steps : goal.returns-in-Err-clause-steps
+returns-in-Err-clause-steps g c =
+    let j = c.args.job.now in
+    let piece = take c.in-Ok.count c.read.new.buf in
+    let room : length j.text + length piece ≤ most_bytes + 1 = grind (arith, common_steps) in
+    spent_on_piece j.limit g.start.left (g.S.Source.left c.args.source.now) (g.S.Source.left c.read.new.self) g.start.held (g.K.Sink.held c.args.sink.now)
+    j.text piece c.args.steps.now c.feed.new.steps c.requires.1.1.1.1.1.1.1 c.in-Ok.ensures.bytes.0 room c.feed.ensures.steps
+
+pub returns-in-Ok-More-clause-steps : goal.returns-in-Ok-More-clause-steps
+returns-in-Ok-More-clause-steps g c =
+    let j = c.args.job.now in
+    let piece = take c.in-Ok.count c.read.new.buf in
+    subst (λ z. SpendsOnText c.args.steps.now c.feed.new.steps (settled_work j.text j.limit) (settled_work z j.limit))
+    (sym (c.in-Ok-More.ensures.text (ap (λ p. more_ok p) c.in-Ok-More.field-0-is))) c.feed.ensures.steps

@@ -1,7 +1,9 @@
 use Rattle.std.proofs.Common.{length, sym, ap, subst, arith, refl}
 use Rattle.mm_cli.specs.Going.{SoFar}
 use Rattle.mm_cli.specs.Runs.{Ran}
+use Rattle.mm_cli.specs.Spending.{SpendsOnRest}
 use Rattle.mm_cli.proofs.RunLemmas.{at_first}
+use Rattle.mm_cli.proofs.SpendingLemmas.{spent_in_all}
 use Rattle.mm_cli.proofs.reading.read_pieces.Goals as goal
 
 pub pieces-init : goal.pieces-init
@@ -19,10 +21,16 @@ pieces-init g c =
       live = asks.0;
       source_later = omega arith;
       sink_later = omega arith;
-      steps = refl;
+      steps = omega arith;
     }
 
 pub returns-in-Stop-clause-stopped : goal.returns-in-Stop-clause-stopped
 returns-in-Stop-clause-stopped g c =
     subst (λ n. Ran n g.start.left (g.S.Source.left c.read_piece.new.source) g.start.held (g.K.Sink.held c.read_piece.new.sink) c.in-Stop.status) c.pieces.invariant.limit
     c.in-Stop.ensures.came
+
+pub returns-in-Stop-clause-steps : goal.returns-in-Stop-clause-steps
+returns-in-Stop-clause-steps g c =
+    let inv = c.pieces.invariant in
+    spent_in_all c.args.job.now.limit g.start.left c.pieces.job.text c.args.steps.now c.pieces.steps c.read_piece.new.steps inv.steps
+    (subst (λ n. SpendsOnRest n g.start.left c.pieces.job.text c.pieces.steps c.read_piece.new.steps) inv.limit c.in-Stop.ensures.steps)

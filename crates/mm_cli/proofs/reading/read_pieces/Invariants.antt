@@ -1,5 +1,6 @@
 use Rattle.std.proofs.Common.{◌≡◌, ◌≤◌, ◌+◌, ◌-◌, true, length}
 use Rattle.mm_lines.specs.Lines.{most_bytes}
+use Rattle.mm_job.specs.Work.{settled_work}
 use Rattle.mm_cli.specs.Going.{IsFar}
 use Rattle.mm_cli.proofs.reading.read_pieces.Given as goal
 
@@ -14,7 +15,7 @@ invariant-pieces g l = record {
   live : l.job.live ≡ true;
   source_later : g.S.Source.faults l.initial.source ≤ g.S.Source.faults l.source;
   sink_later : g.K.Sink.faults l.initial.sink ≤ g.K.Sink.faults l.sink;
-  steps : l.steps ≡ l.initial.steps;
+  steps : l.steps ≤ l.initial.steps + settled_work l.job.text l.initial.job.limit;
 }
 
 abbrev pub decreases-pieces : goal.decreases-pieces
