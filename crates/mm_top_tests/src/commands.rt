@@ -184,11 +184,7 @@ const DUALS: [(&str, &str, u8); 10] = [
         "refused tree 13\n",
         1,
     ),
-    (
-        "",
-        "refused unfinished\n",
-        1,
-    ),
+    ("", "refused unfinished\n", 1),
 ];
 
 #[test]
@@ -196,14 +192,7 @@ fn headers_give_those_of_their_duals(rt: HostRuntime) -> Result<(), Fail> {
     let alloc = rt.alloc();
     for (text, output, status) in DUALS {
         for piece in [4096usize, 1, 7] {
-            let same = gives(
-                alloc,
-                "dual",
-                text.as_bytes(),
-                piece.max(1),
-                output,
-                status,
-            )?;
+            let same = gives(alloc, "dual", text.as_bytes(), piece.max(1), output, status)?;
             assert!(rt; same, "{text} in pieces of {piece}");
         }
     }
