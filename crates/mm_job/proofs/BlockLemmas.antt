@@ -34,9 +34,7 @@ use Rattle.mm_job.specs.Header.{Session}
 use Rattle.mm_job.specs.Items.{Rest, block_of, closes, items, opens, rest_of_block, after_line, Single}
 use Rattle.mm_job.specs.Output.{Ending, after_reply, reply_line, lines_of_items}
 use Rattle.mm_job.specs.declared.block.Block.{Block}
-use Rattle.mm_job.specs.declared.block.Block.TheVariants as begun
 use Rattle.mm_job.specs.declared.output_line.OutputLine.{OutputLine}
-use Rattle.mm_job.specs.declared.output_line.OutputLine.TheVariants.{Refuses}
 
 -- ---- the end of a block
 

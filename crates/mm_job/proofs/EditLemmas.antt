@@ -1,7 +1,6 @@
 -- What a session makes of an edit is what the definitions say of it.
-use Rattle.std.proofs.Common.{◌≡◌, ◌≤◌, ◌<◌, ◌⊎◌, inl, inr, ℤ, nat_abs, ℕ, ◌+◌, Bool, true, false, not, ◌||◌, ◌==◌, List, [], ◌∷◌, ◌++◌, length, Option, Some, None, refl, sym, ap, ap₂, subst, ◌∙◌, arith, w64, to_z, of_z}
+use Rattle.std.proofs.Common.{◌≡◌, ◌≤◌, ◌⊎◌, inl, inr, ℤ, nat_abs, ℕ, ◌+◌, Bool, true, false, not, ◌||◌, ◌==◌, List, [], ◌++◌, length, Option, Some, None, refl, sym, ap, ap₂, subst, ◌∙◌, arith, w64, to_z, of_z}
 use Rattle.std.specs.Prelude.{nat_lt, nat_le, if◌then◌else◌, IfOk, OnOk, Ok, Err, pos, negsuc}
-use Rattle.std.specs.Result.{result_ok}
 use Rattle.std.specs.declared.result.Result.{Result}
 use Rattle.std.proofs.lemmas.Bool.{le-ltb, lt-ltb, ltb-false, ltb-true, or_right}
 use Rattle.std.proofs.lemmas.Int.{to_z-of_z}
@@ -13,12 +12,12 @@ use Rattle.mm_edit.specs.SessionValue.{SessionValue, kept_types}
 use Rattle.mm_edit.specs.declared.fault.EditFault.{EditFault}
 use Rattle.mm_edit.specs.declared.fault.EditFault.TheVariants as fault
 use Rattle.mm_field.specs.declared.Field.{Field}
-use Rattle.mm_job.specs.Edits.{Changed, Denied, accepted, another_weight, changed, exchange_refusal, exchanged, replaced_path}
+use Rattle.mm_job.specs.Edits.{Changed, Denied, another_weight, changed, exchange_refusal, exchanged, replaced_path}
 use Rattle.mm_job.specs.Header.{Session, is_over_limit}
 use Rattle.mm_job.specs.Output.{after_reply, answered, reply_line}
-use Rattle.mm_job.specs.State.Replies.{Begun, Replies, RepliesToEdit, SpendsEdit, edit_stop}
+use Rattle.mm_job.specs.State.Replies.{RepliesToEdit, SpendsEdit, edit_stop}
 use Rattle.mm_job.specs.State.Sessions.{IsEditor, kept_of, session_of}
-use Rattle.mm_job.specs.Work.{afresh, is_full, kept_after, kept_for, types_in}
+use Rattle.mm_job.specs.Work.{afresh, is_full, kept_for, types_in}
 use Rattle.mm_job.specs.declared.editor.Editor.{Editor}
 use Rattle.mm_job.specs.declared.output_line.OutputLine.{OutputLine}
 use Rattle.mm_job.specs.declared.output_line.OutputLine.TheVariants.{Refuses}
@@ -26,23 +25,21 @@ use Rattle.mm_job_text.specs.Checks.{◌>>=◌, ◌>>◌, found, require, unless
 use Rattle.mm_job_text.specs.declared.refusal.Limit.TheVariants as limit
 use Rattle.mm_job_text.specs.declared.refusal.Refusal.{Refusal}
 use Rattle.mm_job_text.specs.declared.refusal.Refusal.TheVariants as refusal
-use Rattle.mm_job_text.specs.declared.refusal.Stop.{Stop}
 use Rattle.mm_job_text.specs.declared.refusal.Stop.TheVariants.{Refused, NoMemory}
 use Rattle.mm_logic.specs.Growth.{Grown}
 use Rattle.mm_logic.specs.Meaning.{WellSorted}
 use Rattle.mm_logic.specs.Occurrence.{cells}
 use Rattle.mm_logic.specs.Order.{SameMembers}
 use Rattle.mm_logic.specs.StateSize.{Query, asked, rows, types}
-use Rattle.mm_logic.specs.Tree.{IsValid}
 use Rattle.mm_logic.specs.Value.{Value}
 use Rattle.mm_logic_laws.proofs.RuleTypeLemmas.{given_by_rules}
-use Rattle.mm_nodes.specs.Demands.{made, made_rows}
+use Rattle.mm_nodes.specs.Demands.{made}
 use Rattle.mm_nodes.proofs.RoomLemmas.{grown-members}
 use Rattle.mm_tree.specs.NamedTree.{Tree, boundary, element_names, is_one_of, leaf_names, nodes, shape}
 use Rattle.mm_tree.specs.Paths.{Path, node_at, path_to, with_node, with_weight}
 use Rattle.mm_tree.specs.Places.{path_above, place_at_end}
 use Rattle.mm_tree.specs.declared.place.Place.{Place}
-use Rattle.mm_tree.specs.Replacing.{first_taken, name_fault, replace_fault, size_fault}
+use Rattle.mm_tree.specs.Replacing.{first_taken, name_fault, replace_fault}
 use Rattle.mm_tree.specs.ValidTree.{IsValidTree, most_depth, most_leaves, most_weight}
 use Rattle.mm_tree.specs.declared.replace.ReplaceFault.{ReplaceFault}
 use Rattle.mm_tree.specs.declared.replace.ReplaceFault.TheVariants as tree

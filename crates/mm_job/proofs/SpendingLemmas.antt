@@ -1,7 +1,5 @@
 -- Steps and work, line after line.
 use Rattle.std.proofs.Common.{◌≡◌, ◌≤◌, ℕ, ◌+◌, List, [], ◌∷◌, ◌++◌, sym, ap, subst, ◌∙◌, arith}
-use Rattle.std.specs.Prelude.{OnErr, Ok, Err}
-use Rattle.std.specs.declared.result.Result.{Result}
 use Rattle.mm_job.specs.State.Spending.{Spends, SpendsAtMost}
 use Rattle.mm_lines.specs.declared.line.Line.{Line}
 

@@ -1,5 +1,5 @@
 -- A session that is started is that of the header.
-use Rattle.std.proofs.Common.{◌≡◌, ◌≤◌, ℕ, ◌+◌, Bool, true, false, not, List, [], ◌∷◌, ◌++◌, refl, sym, ap, subst, ◌∙◌, arith}
+use Rattle.std.proofs.Common.{◌≡◌, ◌≤◌, ℕ, ◌+◌, Bool, true, false, not, List, [], ◌∷◌, refl, sym, ap, subst, ◌∙◌, arith}
 use Rattle.std.specs.Prelude.{IfOk, Ok, Err, Option, Some, None, if◌then◌else◌}
 use Rattle.std.specs.declared.result.Result.{Result}
 use Rattle.mm_edit.specs.Edits as kinds
@@ -23,7 +23,6 @@ use Rattle.mm_job.specs.Items.{items}
 use Rattle.mm_job.specs.State.Replies.{Begins, Begun, SpendsStart}
 use Rattle.mm_job.specs.Output.{Ending, answered, lines_after_header, lines_of_items}
 use Rattle.mm_job.specs.State.Sessions.{IsEditor, kept_of, kind_by, session_of, session_with}
-use Rattle.mm_job.specs.State.Spending.{Spends, SpendsAtMost}
 use Rattle.mm_job.specs.Work.{items_work, types_in, work_after}
 use Rattle.mm_job.specs.declared.editor.Editor.{Editor}
 use Rattle.mm_job.specs.declared.output_line.OutputLine.{OutputLine}
@@ -41,10 +40,8 @@ use Rattle.mm_lines.specs.declared.line.Line.{Line}
 use Rattle.mm_logic.specs.Formula.{Formula}
 use Rattle.mm_logic.specs.Growth.{Grown}
 use Rattle.mm_logic.specs.Meaning.{WellSorted}
-use Rattle.mm_logic.specs.Order.{SameMembers}
 use Rattle.mm_logic.specs.StateSize.{Query, asked}
 use Rattle.mm_logic.specs.StateSize.Query.{Decide, Least}
-use Rattle.mm_logic.specs.Value.{Value}
 use Rattle.mm_nodes.specs.Demands.{made}
 use Rattle.mm_tree.specs.NamedTree.{Tree, nodes, shape}
 use Rattle.mm_tree.specs.TreeValue.{TreeValue}

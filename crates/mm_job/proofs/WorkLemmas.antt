@@ -5,7 +5,6 @@ use Rattle.std.specs.List.{list_any}
 use Rattle.std.proofs.lemmas.List.{append-nil}
 use Rattle.std.proofs.lemmas.List.Folds.{list_any-append}
 use Rattle.mm_edit.specs.Edits.{Applied}
-use Rattle.mm_header.specs.Rules.{job_rules}
 use Rattle.mm_job.specs.Edits.{block, single}
 use Rattle.mm_job.specs.Header.{Session, header_lines, is_over_limit}
 use Rattle.mm_job.specs.Items.{Items, NoMore, Unended, Single, Block, Rest, after_line, block_of, closes, items, opens, rest_of_block}

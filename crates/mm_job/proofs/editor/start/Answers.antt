@@ -1,4 +1,4 @@
-use Rattle.std.proofs.Common.{◌≡◌, ap, ◌∙◌, sym}
+use Rattle.std.proofs.Common.{◌≡◌, ap, ◌∙◌}
 use Rattle.std.specs.Prelude.{◌∷◌, [], false}
 use Rattle.std.proofs.lemmas.Result.{IfOk-at_ok}
 use Rattle.mm_edit.specs.Edits.{query_of}

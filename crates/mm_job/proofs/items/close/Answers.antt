@@ -1,7 +1,5 @@
 use Rattle.std.proofs.lemmas.Result.{IfOk-weaker}
 use Rattle.std.specs.Prelude.{[]}
-use Rattle.mm_job.specs.Edits.{check_names, check_rows}
-use Rattle.mm_job.specs.State.Sessions.{session_of}
 use Rattle.mm_job.specs.declared.output_line.OutputLine.{OutputLine}
 use Rattle.mm_job.proofs.BlockLemmas.{check_closed, names_end, rows_end}
 use Rattle.mm_job.proofs.items.close.Goals as goal

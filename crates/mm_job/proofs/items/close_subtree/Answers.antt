@@ -1,9 +1,7 @@
 use Rattle.std.proofs.Common.{refl, subst, sym}
 use Rattle.std.proofs.lemmas.Result.{IfOk-weaker}
-use Rattle.std.specs.Prelude.{[], ◌∷◌}
 use Rattle.std.specs.declared.result.Result.{Result}
 use Rattle.mm_edit.specs.Edits.{Applied}
-use Rattle.mm_job.specs.Edits.{exchanged, replacement}
 use Rattle.mm_job.specs.State.Replies.{RepliesToEdit, SpendsEdit}
 use Rattle.mm_job.specs.State.Sessions.{session_of}
 use Rattle.mm_job.specs.declared.output_line.OutputLine.{OutputLine}

@@ -1,5 +1,5 @@
 use Rattle.std.proofs.Common.{sym, ◌∙◌}
-use Rattle.std.specs.Prelude.{[], ◌∷◌, None, Some}
+use Rattle.std.specs.Prelude.{◌∷◌, None, Some}
 use Rattle.std.specs.Result.{result_ok}
 use Rattle.mm_job.specs.Edits.{changed, line_edit}
 use Rattle.mm_job.specs.Output.{after_reply}

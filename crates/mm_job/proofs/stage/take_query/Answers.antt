@@ -1,4 +1,4 @@
-use Rattle.std.proofs.Common.{◌≡◌, ℕ, List, ap, subst, sym, ◌∙◌}
+use Rattle.std.proofs.Common.{ℕ, List, ap, subst, ◌∙◌}
 use Rattle.mm_lines.specs.declared.line.Line.{Line}
 use Rattle.std.specs.Prelude.{[], ◌∷◌, Err, None}
 use Rattle.std.specs.declared.result.Result.{Result}
