@@ -1,0 +1,1 @@
+"""Tests of the programs in tools/: python3 -m unittest discover -s tools -t tools."""
