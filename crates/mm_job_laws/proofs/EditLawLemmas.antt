@@ -2,13 +2,15 @@
 use Rattle.std.proofs.Common.{◌≡◌, ℕ, Bool, true, false, not, List, refl, sym, ap, subst, ◌∙◌}
 use Rattle.std.specs.Prelude.{codes, Ok, Err, if◌then◌else◌}
 use Rattle.std.specs.declared.result.Result.{Result}
+use Rattle.mm_edit.proofs.WeightLemmas.{shape_stays}
 use Rattle.mm_edit.specs.Edits.{Applied}
 use Rattle.mm_job.specs.Edits.{Changed, Denied, block, changed, checked, compared_or, line_edit, replace_edit, single}
 use Rattle.mm_job.specs.Header.{Session, header, header_lines, is_over_limit, started}
 use Rattle.mm_job.specs.Items.{Items}
+use Rattle.mm_job.specs.Meaning.{answer_line, truth_line}
 use Rattle.mm_job.specs.Output.{after_reply}
 use Rattle.mm_job_laws.specs.AnswerLaws.{ComesTo}
-use Rattle.mm_job_laws.specs.EditLaws.{OutputAnswersReplacements, OutputAnswersWeights, SessionsMayBegin}
+use Rattle.mm_job_laws.specs.EditLaws.{DecisionsIgnoreWeights, OutputAnswersReplacements, OutputAnswersWeights, SessionsMayBegin}
 use Rattle.mm_job_laws.proofs.AnswerLemmas.{headers_give_sessions}
 use Rattle.mm_job_laws.proofs.ItemLemmas.{block_line, compared_keeps, keeps, replacements_are_answered, single_line, weights_are_answered}
 use Rattle.mm_job_text.specs.Arguments.{begins}
@@ -18,6 +20,10 @@ use Rattle.mm_job_text.specs.declared.refusal.Refusal.{Refusal}
 use Rattle.mm_job_text.specs.declared.refusal.Refusal.TheVariants as refusal
 use Rattle.mm_lines.specs.Lines.{lines}
 use Rattle.mm_lines.specs.declared.line.Line.{Line}
+use Rattle.mm_logic.specs.Marks.{unmarked}
+use Rattle.mm_logic.specs.Meaning.{holds}
+use Rattle.mm_logic.specs.Tree as shapes
+use Rattle.mm_logic.specs.Tree.{size}
 use Rattle.mm_tree.specs.NamedTree.{Tree}
 
 -- ---- edits
@@ -35,6 +41,11 @@ output_answers_replacements limit text rest s t r rs path new more read comes h 
       replacements_are_answered t r rs path new (keeps sound comes) h,
       block_line limit text rest s t r rs more read comes,
     )
+
+pub decisions_ignore_weights : DecisionsIgnoreWeights
+unfolding answer_line
+decisions_ignore_weights f F tree name weight =
+    ap (λ (T : shapes.Tree). truth_line (holds f F T (unmarked (size T)))) (shape_stays name weight tree)
 
 -- ---- the limit
 

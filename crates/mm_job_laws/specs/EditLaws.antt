@@ -1,13 +1,17 @@
 -- What the output of a job has of the edits that it comes to, and the limit that its trees keep.
 use Rattle.std.specs.Prelude.{◌≡◌, ℕ, ℤ, List, Ok}
+use Rattle.mm_field.specs.declared.Field.{Field}
 use Rattle.mm_job.specs.Edits.{block, single}
 use Rattle.mm_job.specs.Header.{Session, header, started}
 use Rattle.mm_job.specs.Items.{Items, Single, Block, items}
+use Rattle.mm_job.specs.Meaning.{answer_line}
 use Rattle.mm_job.specs.Output.{output_lines, reply_line}
 use Rattle.mm_job_laws.specs.AnswerLaws.{ComesTo, HasLine, IsEdited, IsReplacement, IsWeight}
 use Rattle.mm_job_text.specs.Readers.{Read}
 use Rattle.mm_lines.specs.Lines.{lines}
 use Rattle.mm_lines.specs.declared.line.Line.{Line}
+use Rattle.mm_logic.specs.Formula.{Formula}
+use Rattle.mm_logic.specs.StateSize.Query.{Decide}
 use Rattle.mm_tree.specs.NamedTree.{Tree}
 use Rattle.mm_tree.specs.Paths.{Path, with_node, with_weight}
 
@@ -30,3 +34,9 @@ abbrev pub SessionsMayBegin : Type 0
 SessionsMayBegin =
     (limit : ℕ) (rs rest : List Line) (s t : Session) (j : Items) → header limit rs ≡ Read s rest → ComesTo s (items rest) t j
     → started t ≡ Ok t
+
+-- Whether a formula holds does not depend on weights.
+abbrev pub DecisionsIgnoreWeights : Type 0
+DecisionsIgnoreWeights =
+    (f : Field) (F : Formula) (tree : Tree) (name : List ℕ) (weight : ℤ)
+    → answer_line f (Decide F) (with_weight name weight tree) ≡ answer_line f (Decide F) tree

@@ -2,7 +2,7 @@
 ghost use Rattle.mm_job_laws.specs.AnswerLaws.{AnswerLinesAreAnswers, ChecksAreAnswered, HeadersGiveSessions, ItemsKeepSessionsSound, QueryLinesGiveWhatTheySpell};
 ghost use Rattle.mm_job_laws.specs.AnswerLaws.{OutputAnswersChecks, OutputBeginsWithAnswer, OutputNamesTheDifference, VerdictsAreMeant};
 ghost use Rattle.mm_job_laws.specs.AnswerLaws.{RefusalsChangeNothing, ReplacementsAreAnswered, WeightsAreAnswered};
-ghost use Rattle.mm_job_laws.specs.EditLaws.{OutputAnswersReplacements, OutputAnswersWeights, SessionsMayBegin};
+ghost use Rattle.mm_job_laws.specs.EditLaws.{DecisionsIgnoreWeights, OutputAnswersReplacements, OutputAnswersWeights, SessionsMayBegin};
 
 /// A query line gives exactly the query that it spells: the grammar derives its formula from the text of the line, and the formula
 /// is scoped and within its limits.
@@ -79,4 +79,9 @@ pub fn the_output_answers_replacements()
 /// However the present tree of a job came about, a session begun with it is not refused for its size.
 pub fn sessions_may_begin_with_the_present_tree()
     ensures { SessionsMayBegin }
+{}
+
+/// Whether a formula holds does not depend on weights, so that another weight leaves the answer as it is.
+pub fn decisions_ignore_weights()
+    ensures { DecisionsIgnoreWeights }
 {}
