@@ -106,13 +106,16 @@ const TRIANGLE_DUAL: &[u8] =
     b"mso 1\nfield 2\nelements a b c\nrow 111\nop j1 1 1 1 0 1 1\nop j2 1 1 0 1 1 1\n\
 tree\nelem a 1 5\nelem b 1 5\njoin j1\nelem c 1 5\njoin j2\nend\n";
 
+/// The header of the dual of no elements.
+const EMPTY_DUAL: &[u8] = b"mso 1\nfield 3\ntree\nvoid v 0\nend\n";
+
 #[test]
 fn a_header_becomes_its_dual(rt: HostRuntime) -> Result<(), Fail> {
     let alloc = rt.alloc();
     let dual = dual_text(alloc, TRIANGLE).expect(&rt, "a header");
     assert_eq!(rt; dual.bytes(), TRIANGLE_DUAL);
     let empty = dual_text(alloc, b"mso 1\nfield 3\ntree\nvoid w 2\nend\n").expect(&rt, "a header");
-    assert_eq!(rt; empty.bytes(), b"mso 1\nfield 3\ntree\nvoid v 0\nend\n");
+    assert_eq!(rt; empty.bytes(), EMPTY_DUAL);
     Ok(())
 }
 
