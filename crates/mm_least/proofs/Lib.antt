@@ -5,3 +5,5 @@ pub mod AnswerLemmas
 pub mod PassLemmas
 pub mod WalkLemmas
 pub mod NodeLemmas
+pub mod LogLemmas
+pub mod KnownLemmas

@@ -25,7 +25,8 @@ use Rattle.mm_least.specs.declared.row.Origin.TheVariants.{Out}
 use Rattle.mm_least.specs.RowLaws.{types_within, held-stays, within-stays}
 use Rattle.mm_least.specs.Rows.{put_row, Puts, AddsRow, shown}
 use Rattle.mm_least.proofs.RowLemmas.{adds_in_place}
-use Rattle.mm_least.specs.Candidates.{Candidate, candidate, put, held}
+use Rattle.mm_least.specs.Candidates.{Candidate, candidate, put, held, held_by}
+use Rattle.mm_least.specs.KnownRows.{TellsApart, AreBelow}
 use Rattle.mm_least.specs.BestLaws.{Different, same_itself, put-longer}
 use Rattle.mm_least.specs.Passes.{AreWithin, AreTooMany, Passes, IsFaultOf}
 
@@ -115,52 +116,56 @@ places_tell (v ∷ vs) (suc i) (suc j) d h l m = places_tell vs i j d h.1 (omega
 
 -- ---- rows hold candidates
 
-module _ (F : Formula) (lists : List (List Value)) (different : Different (root F lists)) where
-  pub held-put : (r : Row) (rows : List Row) → r.id < length (root F lists) → AreWithin F lists (shown rows)
-      → held F lists (put_row r rows) ≡ put (candidate (type_at F lists r.id) r.weight r.origin) (held F lists rows)
-  held-put r [] l h = refl
-  held-put r (s ∷ rows) l h = by (nat_eq s.id r.id) (int_lt r.weight s.weight) refl refl (held-put r rows l h.1)
+module _ (type : ℕ → Value) (n : ℕ) (apart : TellsApart type n) where
+  pub put_held : (r : Row) (rows : List Row) → r.id < n → AreBelow n rows
+      → held_by type (put_row r rows) ≡ put (candidate (type r.id) r.weight r.origin) (held_by type rows)
+  put_held r [] l h = refl
+  put_held r (s ∷ rows) l h = by (nat_eq s.id r.id) (int_lt r.weight s.weight) refl refl (put_held r rows l h.1)
     where
       c : Candidate Origin
-      c = candidate (type_at F lists r.id) r.weight r.origin
+      c = candidate (type r.id) r.weight r.origin
 
       d : Candidate Origin
-      d = candidate (type_at F lists s.id) s.weight s.origin
+      d = candidate (type s.id) s.weight s.origin
 
       tell : same d.type c.type ≡ nat_eq s.id r.id
-      tell = places_tell (root F lists) s.id r.id Dead different h.0 l
+      tell = apart s.id r.id h.0 l
 
       row_branch : (b : Bool) → nat_eq s.id r.id ≡ b → put_row r (s ∷ rows) ≡ (if b then (if int_lt r.weight s.weight then rows ++ r ∷ [] else s ∷ rows) else s ∷ put_row r rows)
       row_branch b e = ap (λ x. if x then (if int_lt r.weight s.weight then rows ++ r ∷ [] else s ∷ rows) else s ∷ put_row r rows) e
 
       branch : (b : Bool) → nat_eq s.id r.id ≡ b
-          → put c (d ∷ held F lists rows) ≡ (if b then (if int_lt r.weight s.weight then held F lists rows ++ c ∷ [] else d ∷ held F lists rows) else d ∷ put c (held F lists rows))
-      branch b e = ap (λ x. if x then (if int_lt r.weight s.weight then held F lists rows ++ c ∷ [] else d ∷ held F lists rows) else d ∷ put c (held F lists rows)) (tell ∙ e)
+          → put c (d ∷ held_by type rows) ≡ (if b then (if int_lt r.weight s.weight then held_by type rows ++ c ∷ [] else d ∷ held_by type rows) else d ∷ put c (held_by type rows))
+      branch b e = ap (λ x. if x then (if int_lt r.weight s.weight then held_by type rows ++ c ∷ [] else d ∷ held_by type rows) else d ∷ put c (held_by type rows)) (tell ∙ e)
 
-      by : (b less : Bool) → nat_eq s.id r.id ≡ b → int_lt r.weight s.weight ≡ less → held F lists (put_row r rows) ≡ put c (held F lists rows) → held F lists (put_row r (s ∷ rows)) ≡ put c (d ∷ held F lists rows)
+      by : (b less : Bool) → nat_eq s.id r.id ≡ b → int_lt r.weight s.weight ≡ less → held_by type (put_row r rows) ≡ put c (held_by type rows) → held_by type (put_row r (s ∷ rows)) ≡ put c (d ∷ held_by type rows)
       by true true e i rest =
-          ap (held F lists) (row_branch true e ∙ ap (λ x. if x then rows ++ r ∷ [] else s ∷ rows) i) ∙ map-append _ rows (r ∷ [])
-          ∙ sym (branch true e ∙ ap (λ x. if x then held F lists rows ++ c ∷ [] else d ∷ held F lists rows) i)
+          ap (held_by type) (row_branch true e ∙ ap (λ x. if x then rows ++ r ∷ [] else s ∷ rows) i) ∙ map-append _ rows (r ∷ [])
+          ∙ sym (branch true e ∙ ap (λ x. if x then held_by type rows ++ c ∷ [] else d ∷ held_by type rows) i)
       by true false e i rest =
-          ap (held F lists) (row_branch true e ∙ ap (λ x. if x then rows ++ r ∷ [] else s ∷ rows) i)
-          ∙ sym (branch true e ∙ ap (λ x. if x then held F lists rows ++ c ∷ [] else d ∷ held F lists rows) i)
-      by false less e i rest = ap (held F lists) (row_branch false e) ∙ ap (λ cs. d ∷ cs) rest ∙ sym (branch false e)
+          ap (held_by type) (row_branch true e ∙ ap (λ x. if x then rows ++ r ∷ [] else s ∷ rows) i)
+          ∙ sym (branch true e ∙ ap (λ x. if x then held_by type rows ++ c ∷ [] else d ∷ held_by type rows) i)
+      by false less e i rest = ap (held_by type) (row_branch false e) ∙ ap (λ cs. d ∷ cs) rest ∙ sym (branch false e)
 
-  pub within-put : (r : Row) (rows : List Row) → r.id < length (root F lists) → AreWithin F lists (shown rows) → AreWithin F lists (shown (put_row r rows))
-  within-put r [] l h = (l, tt)
-  within-put r (s ∷ rows) l h = by (nat_eq s.id r.id) (int_lt r.weight s.weight) refl refl (within-put r rows l h.1)
+  pub put_below : (r : Row) (rows : List Row) → r.id < n → AreBelow n rows → AreBelow n (put_row r rows)
+  put_below r [] l h = (l, tt)
+  put_below r (s ∷ rows) l h = by (nat_eq s.id r.id) (int_lt r.weight s.weight) refl refl (put_below r rows l h.1)
     where
-      last : (ss : List Row) → AreWithin F lists (shown ss) → AreWithin F lists (shown (ss ++ r ∷ []))
+      last : (ss : List Row) → AreBelow n ss → AreBelow n (ss ++ r ∷ [])
       last [] k = (l, tt)
       last (s ∷ ss) k = (k.0, last ss k.1)
 
       at_place : (b less : Bool) → List Row
       at_place b less = if b then (if less then rows ++ r ∷ [] else s ∷ rows) else s ∷ put_row r rows
 
-      by : (b less : Bool) → nat_eq s.id r.id ≡ b → int_lt r.weight s.weight ≡ less → AreWithin F lists (shown (put_row r rows)) → AreWithin F lists (shown (put_row r (s ∷ rows)))
-      by true true e i rest = subst (λ ss. AreWithin F lists (shown ss)) (sym (λ k. at_place (e k) (i k))) (last rows h.1)
-      by true false e i rest = subst (λ ss. AreWithin F lists (shown ss)) (sym (λ k. at_place (e k) (i k))) h
-      by false less e i rest = subst (λ ss. AreWithin F lists (shown ss)) (sym (λ k. at_place (e k) (i k))) (h.0, rest)
+      by : (b less : Bool) → nat_eq s.id r.id ≡ b → int_lt r.weight s.weight ≡ less → AreBelow n (put_row r rows) → AreBelow n (put_row r (s ∷ rows))
+      by true true e i rest = subst (λ ss. AreBelow n ss) (sym (λ k. at_place (e k) (i k))) (last rows h.1)
+      by true false e i rest = subst (λ ss. AreBelow n ss) (sym (λ k. at_place (e k) (i k))) h
+      by false less e i rest = subst (λ ss. AreBelow n ss) (sym (λ k. at_place (e k) (i k))) (h.0, rest)
+
+-- different numbers in exact lists stand for different types
+pub tells_apart : (F : Formula) (lists : List (List Value)) → IsExact F lists → TellsApart (type_at F lists) (length (root F lists))
+tells_apart F lists e i k l m = places_tell (root F lists) i k Dead (exact-different F lists (root_none F) e) l m
 
 pub held-length : (F : Formula) (lists : List (List Value)) (rows : List Row) → length (held F lists rows) ≡ length rows
 held-length F lists rows = length-map rows (λ r. candidate (type_at F lists r.id) r.weight r.origin)
@@ -187,12 +192,12 @@ module _ (F : Formula) (olds mids : List (List Value)) (v : Value) (id : ℕ) (w
   begins : AllBegin olds mids
   begins = AllBegin-grown olds mids (occurring F (v ∷ [])) n.grown
 
-  different : Different (root F mids)
-  different = exact-different F mids (root_none F) (exact-then F olds mids (v ∷ []) exact n.grown)
+  apart : TellsApart (type_at F mids) (length (root F mids))
+  apart = tells_apart F mids (exact-then F olds mids (v ∷ []) exact n.grown)
 
   best : held F mids (put_row row rows0) ≡ put (candidate v w o) (held F olds rows0)
   best =
-      held-put F mids different row rows0 n.within (within-stays F olds mids (shown rows0) begins within)
+      put_held (type_at F mids) (length (root F mids)) apart row rows0 n.within (within-stays F olds mids (shown rows0) begins within)
       ∙ (λ i. put (candidate (n.value i) w o) (held-stays F olds mids rows0 begins within i))
 
   more : list_cells (parts F) mids ≡ list_cells (parts F) olds + missing_cells F olds (v ∷ [])
@@ -218,7 +223,7 @@ module _ (F : Formula) (olds mids : List (List Value)) (v : Value) (id : ℕ) (w
       let sum = a.1 in
       record {
         grown = n.grown;
-        within = subst (λ rs. AreWithin F mids (shown rs)) (sym a.0) (within-put F mids different row rows0 n.within (within-stays F olds mids (shown rows0) begins within));
+        within = subst (λ rs. AreWithin F mids (shown rs)) (sym a.0) (put_below (type_at F mids) (length (root F mids)) apart row rows0 n.within (within-stays F olds mids (shown rows0) begins within));
         best = ap (held F mids) a.0 ∙ best;
         taken = omega (arith, sum, u, more, fits);
         roomy = omega (arith, sum, u, more, fits, longer, one, two, three, long);

@@ -21,7 +21,7 @@ not_both e p q = cc
 nat_eq_true : (a b : ℕ) → a ≡ b → nat_eq a b ≡ true
 nat_eq_true a b e = grind (arith)
 
-if_cons : (b : Bool) (s : Row) (xs ys : List Row) → s ∷ (if b then xs else ys) ≡ (if b then s ∷ xs else s ∷ ys)
+pub if_cons : (b : Bool) (s : Row) (xs ys : List Row) → s ∷ (if b then xs else ys) ≡ (if b then s ∷ xs else s ∷ ys)
 if_cons true s xs ys = refl
 if_cons false s xs ys = refl
 

@@ -1,5 +1,6 @@
 -- The walk over the candidates of a join.
-use Rattle.std.proofs.Common.{◌≡◌, ◌<◌, ◌+◌, ◌+ℤ◌, ℕ, zero, suc, ℤ, List, [], ◌∷◌, ◌++◌, take, drop, length, get_or, Err, refl, sym, ap, ◌∙◌, subst, arith, take-append-drop, append_assoc}
+use Rattle.std.proofs.Common.{◌≡◌, ◌<◌, ◌+◌, ◌+ℤ◌, ℕ, zero, suc, ℤ, List, [], ◌∷◌, ◌++◌, take, drop, map, length, get_or, Result, Ok, Err, refl, sym, ap, ◌∙◌, subst, arith, take-append-drop, append_assoc}
+use Rattle.std.specs.Prelude.{OnOk}
 use Rattle.std.proofs.lemmas.List.{map-append, take_more, length-take-le}
 use Rattle.mm_field.specs.declared.Field.{Field}
 use Rattle.mm_logic.specs.Formula.{Formula}
@@ -8,10 +9,10 @@ use Rattle.mm_logic.specs.Occurrence.{nodes as parts, occurring, list_cells}
 use Rattle.mm_logic.specs.JoinRule.{join_type}
 use Rattle.mm_logic.specs.Growth.{root, type_at, missing_cells, AllBegin, AllGrown}
 use Rattle.mm_logic.specs.PossibleValues.{IsValueOf}
-use Rattle.mm_logic.proofs.GrowthLemmas.{AllBegin-grown, type_at-begins, within-begins, list_cells-grown, calls-then, missing-more, missing-calls}
+use Rattle.mm_logic.proofs.GrowthLemmas.{AllBegin-grown, type_at-begins, within-begins, list_cells-grown, calls-then, missing-more, missing-calls, append-nothing}
 use Rattle.mm_ops.specs.OpValue.{OpValue}
 use Rattle.mm_states.specs.Lists.{AllFit}
-use Rattle.mm_states.specs.Calls.{IsOperand, IsRoomy, value_of_join}
+use Rattle.mm_states.specs.Calls.{IsOperand, IsRoomy, Numbers, value_of_join}
 use Rattle.mm_nodes.specs.Demands.{IsExact}
 use Rattle.mm_nodes.specs.declared.keeps.KeepFault.{KeepFault}
 use Rattle.mm_nodes.specs.declared.keeps.KeepFault.TheVariants.{Full}
@@ -20,11 +21,13 @@ use Rattle.mm_least.specs.declared.row.Row.{Row}
 use Rattle.mm_least.specs.declared.row.Origin.{Origin}
 use Rattle.mm_least.specs.declared.row.Origin.TheVariants.{Pair}
 use Rattle.mm_least.specs.Rows.{shown}
-use Rattle.mm_least.specs.Candidates.{Candidate, candidate, put_all, types_of, held, typed, pairs_with, pairs_of}
+use Rattle.mm_least.specs.Candidates.{Candidate, candidate, put_all, types_of, held, typed, typed_by, pairs_with, pairs_of}
 use Rattle.mm_least.specs.BestLaws.{put_all-longer, put_all-append}
 use Rattle.mm_least.specs.Passes.{AreWithin, Passed, AreTooMany, Passes, AreOperands}
+use Rattle.mm_least.specs.Transitions.{AreIn, Told}
+use Rattle.mm_least.specs.RowLaws.{ids-within, ids-stay, append_fits}
 
-types-append : (cs ds : List (Candidate Origin)) → types_of (cs ++ ds) ≡ types_of cs ++ types_of ds
+pub types-append : (cs ds : List (Candidate Origin)) → types_of (cs ++ ds) ≡ types_of cs ++ types_of ds
 types-append cs ds = map-append (λ c. c.type) cs ds
 
 pub passed_none : (F : Formula) (olds : List (List Value)) (rows : List Row) (room : ℕ) → IsExact F olds → AreWithin F olds (shown rows) → Passed F olds olds [] rows rows room room
@@ -106,51 +109,71 @@ module _ (j : Value → Value → Value) where
       ap (λ cs. pairs_with j p n qs 0 ++ cs) (of-append ps ss (suc n) qs ∙ ap (λ m. pairs_of j ps (suc n) qs ++ pairs_of j ss m qs) (omega arith))
       ∙ sym (append_assoc (pairs_with j p n qs 0) (pairs_of j ps (suc n) qs) (pairs_of j ss (n + length (p ∷ ps)) qs))
 
-module _ (F : Formula) (lists : List (List Value)) where
-  typed-append : (rs ss : List Row) → typed F lists (shown (rs ++ ss)) ≡ typed F lists (shown rs) ++ typed F lists (shown ss)
+module _ (type : ℕ → Value) where
+  typed-append : (rs ss : List Row) → typed_by type (shown (rs ++ ss)) ≡ typed_by type (shown rs) ++ typed_by type (shown ss)
   typed-append [] ss = refl
-  typed-append (r ∷ rs) ss = ap (λ ps. (type_at F lists r.id, r.weight) ∷ ps) (typed-append rs ss)
+  typed-append (r ∷ rs) ss = ap (λ ps. (type r.id, r.weight) ∷ ps) (typed-append rs ss)
 
-  typed-length : (rs : List Row) → length (typed F lists (shown rs)) ≡ length rs
+  typed-length : (rs : List Row) → length (typed_by type (shown rs)) ≡ length rs
   typed-length [] = refl
   typed-length (r ∷ rs) = let e = typed-length rs in omega (arith, e)
 
   module _ (rows : List Row) (k : ℕ) (d : Row) (l : k < length rows) where
-    next : typed F lists (shown (take (k + 1) rows)) ≡ typed F lists (shown (take k rows)) ++ (type_at F lists (get_or rows k d).id, (get_or rows k d).weight) ∷ []
-    next = ap (λ rs. typed F lists (shown rs)) (take_more rows k d l) ∙ typed-append (take k rows) (get_or rows k d ∷ [])
+    next : typed_by type (shown (take (k + 1) rows)) ≡ typed_by type (shown (take k rows)) ++ (type (get_or rows k d).id, (get_or rows k d).weight) ∷ []
+    next = ap (λ rs. typed_by type (shown rs)) (take_more rows k d l) ∙ typed-append (take k rows) (get_or rows k d ∷ [])
 
-    front : 0 + length (typed F lists (shown (take k rows))) ≡ k
+    front : 0 + length (typed_by type (shown (take k rows))) ≡ k
     front = let e = typed-length (take k rows) ∙ length-take-le k rows (omega (arith, l)) in omega (arith, e)
 
-    whole : typed F lists (shown rows) ≡ typed F lists (shown (take (k + 1) rows)) ++ typed F lists (shown (drop (k + 1) rows))
-    whole = ap (λ rs. typed F lists (shown rs)) (sym (take-append-drop (k + 1) rows)) ∙ typed-append (take (k + 1) rows) (drop (k + 1) rows)
+    whole : typed_by type (shown rows) ≡ typed_by type (shown (take (k + 1) rows)) ++ typed_by type (shown (drop (k + 1) rows))
+    whole = ap (λ rs. typed_by type (shown rs)) (sym (take-append-drop (k + 1) rows)) ∙ typed-append (take (k + 1) rows) (drop (k + 1) rows)
 
     module _ (j : Value → Value → Value) where
-      pub with-next : (p : Value × ℤ) (i : ℕ) → pairs_with j p i (typed F lists (shown (take (k + 1) rows))) 0
-          ≡ pairs_with j p i (typed F lists (shown (take k rows))) 0 ++ candidate (j p.0 (type_at F lists (get_or rows k d).id)) (p.1 +ℤ (get_or rows k d).weight) (Pair i k) ∷ []
+      pub with-next : (p : Value × ℤ) (i : ℕ) → pairs_with j p i (typed_by type (shown (take (k + 1) rows))) 0
+          ≡ pairs_with j p i (typed_by type (shown (take k rows))) 0 ++ candidate (j p.0 (type (get_or rows k d).id)) (p.1 +ℤ (get_or rows k d).weight) (Pair i k) ∷ []
       with-next p i =
           ap (λ qs. pairs_with j p i qs 0) next
-          ∙ with-append j p i (typed F lists (shown (take k rows))) ((type_at F lists (get_or rows k d).id, (get_or rows k d).weight) ∷ []) 0
-          ∙ ap (λ m. pairs_with j p i (typed F lists (shown (take k rows))) 0 ++ candidate (j p.0 (type_at F lists (get_or rows k d).id)) (p.1 +ℤ (get_or rows k d).weight) (Pair i m) ∷ []) front
+          ∙ with-append j p i (typed_by type (shown (take k rows))) ((type (get_or rows k d).id, (get_or rows k d).weight) ∷ []) 0
+          ∙ ap (λ m. pairs_with j p i (typed_by type (shown (take k rows))) 0 ++ candidate (j p.0 (type (get_or rows k d).id)) (p.1 +ℤ (get_or rows k d).weight) (Pair i m) ∷ []) front
 
-      pub with-whole : (p : Value × ℤ) (i : ℕ) → (rest : List (Candidate Origin)) × (pairs_with j p i (typed F lists (shown rows)) 0 ≡ pairs_with j p i (typed F lists (shown (take (k + 1) rows))) 0 ++ rest)
-      with-whole p i = (_, ap (λ qs. pairs_with j p i qs 0) whole ∙ with-append j p i (typed F lists (shown (take (k + 1) rows))) (typed F lists (shown (drop (k + 1) rows))) 0)
+      pub with-whole : (p : Value × ℤ) (i : ℕ) → (rest : List (Candidate Origin)) × (pairs_with j p i (typed_by type (shown rows)) 0 ≡ pairs_with j p i (typed_by type (shown (take (k + 1) rows))) 0 ++ rest)
+      with-whole p i = (_, ap (λ qs. pairs_with j p i qs 0) whole ∙ with-append j p i (typed_by type (shown (take (k + 1) rows))) (typed_by type (shown (drop (k + 1) rows))) 0)
 
-      pub of-next : (qs : List (Value × ℤ)) → pairs_of j (typed F lists (shown (take (k + 1) rows))) 0 qs
-          ≡ pairs_of j (typed F lists (shown (take k rows))) 0 qs ++ pairs_with j (type_at F lists (get_or rows k d).id, (get_or rows k d).weight) k qs 0
+      pub of-next : (qs : List (Value × ℤ)) → pairs_of j (typed_by type (shown (take (k + 1) rows))) 0 qs
+          ≡ pairs_of j (typed_by type (shown (take k rows))) 0 qs ++ pairs_with j (type (get_or rows k d).id, (get_or rows k d).weight) k qs 0
       of-next qs =
           ap (λ ps. pairs_of j ps 0 qs) next
-          ∙ of-append j (typed F lists (shown (take k rows))) ((type_at F lists (get_or rows k d).id, (get_or rows k d).weight) ∷ []) 0 qs
-          ∙ ap (λ cs. pairs_of j (typed F lists (shown (take k rows))) 0 qs ++ cs)
-          (no_more (pairs_with j (type_at F lists (get_or rows k d).id, (get_or rows k d).weight) (0 + length (typed F lists (shown (take k rows)))) qs 0)
-          ∙ ap (λ m. pairs_with j (type_at F lists (get_or rows k d).id, (get_or rows k d).weight) m qs 0) front)
+          ∙ of-append j (typed_by type (shown (take k rows))) ((type (get_or rows k d).id, (get_or rows k d).weight) ∷ []) 0 qs
+          ∙ ap (λ cs. pairs_of j (typed_by type (shown (take k rows))) 0 qs ++ cs)
+          (no_more (pairs_with j (type (get_or rows k d).id, (get_or rows k d).weight) (0 + length (typed_by type (shown (take k rows)))) qs 0)
+          ∙ ap (λ m. pairs_with j (type (get_or rows k d).id, (get_or rows k d).weight) m qs 0) front)
         where
           no_more : (cs : List (Candidate Origin)) → cs ++ [] ≡ cs
           no_more [] = refl
           no_more (c ∷ cs) = ap (λ ds. c ∷ ds) (no_more cs)
 
-      pub of-whole : (qs : List (Value × ℤ)) → (rest : List (Candidate Origin)) × (pairs_of j (typed F lists (shown rows)) 0 qs ≡ pairs_of j (typed F lists (shown (take (k + 1) rows))) 0 qs ++ rest)
-      of-whole qs = (_, ap (λ ps. pairs_of j ps 0 qs) whole ∙ of-append j (typed F lists (shown (take (k + 1) rows))) (typed F lists (shown (drop (k + 1) rows))) 0 qs)
+      pub of-whole : (qs : List (Value × ℤ)) → (rest : List (Candidate Origin)) × (pairs_of j (typed_by type (shown rows)) 0 qs ≡ pairs_of j (typed_by type (shown (take (k + 1) rows))) 0 qs ++ rest)
+      of-whole qs = (_, ap (λ ps. pairs_of j ps 0 qs) whole ∙ of-append j (typed_by type (shown (take (k + 1) rows))) (typed_by type (shown (drop (k + 1) rows))) 0 qs)
+
+-- ---- what a table is told
+
+pub at_ok : {P : Type 0} (r : Result (Unit {0}) KeepFault) → P → OnOk r P
+at_ok (Ok u) h = h
+at_ok (Err e) h = tt
+
+pub told_none : (F : Formula) (lists : List (List Value)) (ids : List ℕ) → AreIn F lists ids → Told F lists lists ids ids []
+told_none F lists ids h = record { within = h; tells = append-nothing (map (type_at F lists) ids) }
+
+pub told_then : (F : Formula) (olds mids nows : List (List Value)) (t0 t1 t2 : List ℕ) (us vs : List Value) → Told F olds mids t0 t1 us → Told F mids nows t1 t2 vs → Told F olds nows t0 t2 (us ++ vs)
+told_then F olds mids nows t0 t1 t2 us vs p q = record { within = q.within; tells = q.tells ∙ ap (λ ws. ws ++ vs) p.tells ∙ append_assoc (map (type_at F olds) t0) us vs }
+
+pub told_one : (F : Formula) (olds mids : List (List Value)) (v : Value) (id : ℕ) (t0 t1 : List ℕ) → Numbers F v olds mids id → AreIn F olds t0 → t1 ≡ t0 ++ id ∷ [] → Told F olds mids t0 t1 (v ∷ [])
+told_one F olds mids v id t0 t1 n h e =
+    let b = AllBegin-grown olds mids (occurring F (v ∷ [])) n.grown in
+    record {
+      within = subst (AreIn F mids) (sym e) (append_fits (λ i. i < length (root F mids)) t0 (id ∷ []) (ids-within F olds mids t0 b h) (n.within, tt));
+      tells = ap (map (type_at F mids)) e ∙ map-append (type_at F mids) t0 (id ∷ []) ∙ (λ i. ids-stay F olds mids t0 b h i ++ n.value i ∷ []);
+    }
 
 -- ---- one step of the walk over the right rows
 
@@ -173,14 +196,21 @@ module _ (F : Formula) (op : OpValue) (olds mids : List (List Value)) (left : Ro
 
     pub with_step : (nows : List (List Value)) → Passed F mids nows (this mids ∷ []) rows1 rows2 room1 room2 → Passed F olds nows (made_of (take (k + 1) right)) rows0 rows2 room0 room2
     with_step nows q =
-        subst (λ cs. Passed F olds nows cs rows0 rows2 room0 room2) (sym (with-next F olds right k d l (join_type op.f F op.op) (type_at F olds left.id, left.weight) place))
+        subst (λ cs. Passed F olds nows cs rows0 rows2 room0 room2) (sym (with-next (type_at F olds) right k d l (join_type op.f F op.op) (type_at F olds left.id, left.weight) place))
         (passed_then F olds mids (made_of (take k right)) (this olds ∷ []) [] rows0 rows1 room0 room1 p nows rows2 room2 (subst (λ cs. Passed F mids nows cs rows1 rows2 room1 room2) this_stays q))
+
+    pub with_told : (nows : List (List Value)) (t0 t1 t2 : List ℕ) → Told F olds mids t0 t1 (types_of (made_of (take k right))) → Told F mids nows t1 t2 (types_of (this mids ∷ []))
+        → Told F olds nows t0 t2 (types_of (made_of (take (k + 1) right)))
+    with_told nows t0 t1 t2 a b =
+        subst (λ cs. Told F olds nows t0 t2 (types_of cs)) (sym (with-next (type_at F olds) right k d l (join_type op.f F op.op) (type_at F olds left.id, left.weight) place))
+        (subst (Told F olds nows t0 t2) (sym (types-append (made_of (take k right)) (this olds ∷ [])))
+        (told_then F olds mids nows t0 t1 t2 _ _ a (subst (λ cs. Told F mids nows t1 t2 (types_of cs)) this_stays b)))
 
     pub with_full : AreTooMany F mids (this mids ∷ []) rows1 room1 → AreTooMany F olds (made_of right) rows0 room0
     with_full h =
-        let rest = with-whole F olds right k d l (join_type op.f F op.op) (type_at F olds left.id, left.weight) place in
+        let rest = with-whole (type_at F olds) right k d l (join_type op.f F op.op) (type_at F olds left.id, left.weight) place in
         subst (λ cs. AreTooMany F olds cs rows0 room0)
-        (sym (rest.1 ∙ ap (λ cs. cs ++ rest.0) (with-next F olds right k d l (join_type op.f F op.op) (type_at F olds left.id, left.weight) place)))
+        (sym (rest.1 ∙ ap (λ cs. cs ++ rest.0) (with-next (type_at F olds) right k d l (join_type op.f F op.op) (type_at F olds left.id, left.weight) place)))
         (too_many_then F olds mids (made_of (take k right)) (this olds ∷ []) rest.0 rows0 rows1 room0 room1 p (subst (λ cs. AreTooMany F mids cs rows1 room1) this_stays h))
 
 -- ---- one step of the walk over the left rows
@@ -203,11 +233,18 @@ module _ (F : Formula) (op : OpValue) (olds mids : List (List Value)) (left righ
 
     pub of_step : (nows : List (List Value)) → Passed F mids nows (those mids) rows1 rows2 room1 room2 → Passed F olds nows (all_of (take (k + 1) left)) rows0 rows2 room0 room2
     of_step nows q =
-        subst (λ cs. Passed F olds nows cs rows0 rows2 room0 room2) (sym (of-next F olds left k d l (join_type op.f F op.op) (typed F olds (shown right))))
+        subst (λ cs. Passed F olds nows cs rows0 rows2 room0 room2) (sym (of-next (type_at F olds) left k d l (join_type op.f F op.op) (typed F olds (shown right))))
         (passed_then F olds mids (all_of (take k left)) (those olds) [] rows0 rows1 room0 room1 p nows rows2 room2 (subst (λ cs. Passed F mids nows cs rows1 rows2 room1 room2) those_stay q))
+
+    pub of_told : (nows : List (List Value)) (t0 t1 t2 : List ℕ) → Told F olds mids t0 t1 (types_of (all_of (take k left))) → Told F mids nows t1 t2 (types_of (those mids))
+        → Told F olds nows t0 t2 (types_of (all_of (take (k + 1) left)))
+    of_told nows t0 t1 t2 a b =
+        subst (λ cs. Told F olds nows t0 t2 (types_of cs)) (sym (of-next (type_at F olds) left k d l (join_type op.f F op.op) (typed F olds (shown right))))
+        (subst (Told F olds nows t0 t2) (sym (types-append (all_of (take k left)) (those olds)))
+        (told_then F olds mids nows t0 t1 t2 _ _ a (subst (λ cs. Told F mids nows t1 t2 (types_of cs)) those_stay b)))
 
     pub of_full : AreTooMany F mids (those mids) rows1 room1 → AreTooMany F olds (all_of left) rows0 room0
     of_full h =
-        let rest = of-whole F olds left k d l (join_type op.f F op.op) (typed F olds (shown right)) in
-        subst (λ cs. AreTooMany F olds cs rows0 room0) (sym (rest.1 ∙ ap (λ cs. cs ++ rest.0) (of-next F olds left k d l (join_type op.f F op.op) (typed F olds (shown right)))))
+        let rest = of-whole (type_at F olds) left k d l (join_type op.f F op.op) (typed F olds (shown right)) in
+        subst (λ cs. AreTooMany F olds cs rows0 room0) (sym (rest.1 ∙ ap (λ cs. cs ++ rest.0) (of-next (type_at F olds) left k d l (join_type op.f F op.op) (typed F olds (shown right)))))
         (too_many_then F olds mids (all_of (take k left)) (those olds) rest.0 rows0 rows1 room0 room1 p (subst (λ cs. AreTooMany F mids cs rows1 room1) those_stay h))

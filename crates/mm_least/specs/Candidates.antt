@@ -36,13 +36,21 @@ module _ {From : Type 0} where
   abbrev pub types_of : List (Candidate From) → List Value
   types_of cs = map (λ c. c.type) cs
 
--- the candidates that rows hold
+-- the candidates that rows hold, by what numbers stand for
+abbrev pub held_by : (ℕ → Value) → List Row → List (Candidate Origin)
+held_by type rows = map (λ r. candidate (type r.id) r.weight r.origin) rows
+
+-- what rows show, by what numbers stand for
+abbrev pub typed_by : (ℕ → Value) → List (ℕ × ℤ) → List (Value × ℤ)
+typed_by type ps = map (λ p. (type p.0, p.1)) ps
+
+-- the candidates that rows hold, where numbers stand for types
 abbrev pub held : Formula → List (List Value) → List Row → List (Candidate Origin)
-held F lists rows = map (λ r. candidate (type_at F lists r.id) r.weight r.origin) rows
+held F lists rows = held_by (type_at F lists) rows
 
 -- what rows show, by their types
 abbrev pub typed : Formula → List (List Value) → List (ℕ × ℤ) → List (Value × ℤ)
-typed F lists ps = map (λ p. (type_at F lists p.0, p.1)) ps
+typed F lists ps = typed_by (type_at F lists) ps
 
 -- What a leaf offers: its element left out, and taken.
 abbrev pub leaf_candidates : Field → Formula → Tree → List (Candidate Origin)

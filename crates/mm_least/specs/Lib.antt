@@ -2,6 +2,9 @@ pub mod Rows
 pub mod Candidates
 pub mod BestLaws
 pub mod Passes
+pub mod Transitions
+pub mod Logs
+pub mod KnownRows
 pub mod NodeRowsValue
 pub mod RowCalls
 pub mod RowLaws

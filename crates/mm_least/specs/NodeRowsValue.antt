@@ -3,14 +3,16 @@ use Rattle.std.specs.Prelude.{ℕ, ℤ, List, Option, ◌⊎◌, ◌≡◌}
 use Rattle.std.proofs.Common.{refl, inl, inr}
 use Rattle.std.specs.Coded.{Coded, code_by, coded×, coded⊎, coded_ℕ, coded_ℤ, coded_list, coded_option}
 use base.Stored.{coded_unit}
+use Rattle.mm_least.specs.Transitions.{TransitionValue, transition_code}
 use Rattle.mm_least.specs.declared.row.Row.{Row}
 use Rattle.mm_least.specs.declared.row.Origin.{Origin}
 use Rattle.mm_least.specs.declared.row.Origin.TheVariants.{Out, Taken, Pair}
 
--- The name of the element of a leaf, and a row for each type.
+-- The name of the element of a leaf, a row for each type, and what is known of the operator of a join.
 pub record NodeValue : Type 0 where
   pub name : Option (List ℕ)
   pub rows : List Row
+  pub known : Option TransitionValue
 
 -- how proofs tell rows apart
 abbrev places : Origin → Unit {0} ⊎ (Unit {0} ⊎ (ℕ × ℕ))
@@ -35,4 +37,6 @@ abbrev pub row_code : Coded Row
 row_code = code_by (ℕ × (ℤ × Origin)) (coded× coded_ℕ (coded× coded_ℤ origin_code)) (λ r. (r.id, (r.weight, r.origin))) (λ p. record { id = p.0; weight = p.1.0; origin = p.1.1 }) (λ _. refl)
 
 abbrev pub node_code : Coded NodeValue
-node_code = code_by (Option (List ℕ) × List Row) (coded× (coded_option (coded_list coded_ℕ)) (coded_list row_code)) (λ n. (n.name, n.rows)) (λ p. record { name = p.0; rows = p.1 }) (λ _. refl)
+node_code =
+    code_by (Option (List ℕ) × (List Row × Option TransitionValue)) (coded× (coded_option (coded_list coded_ℕ)) (coded× (coded_list row_code) (coded_option transition_code))) (λ n. (n.name, (n.rows, n.known)))
+    (λ p. record { name = p.0; rows = p.1.0; known = p.1.1 }) (λ _. refl)

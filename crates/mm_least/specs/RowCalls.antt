@@ -10,8 +10,10 @@ use Rattle.mm_tree.specs.NamedTree.{Tree}
 use Rattle.mm_tree.specs.NamedTree.Tree.{Elem, Void, Join}
 use Rattle.mm_nodes.specs.Demands.{Frame}
 use Rattle.mm_nodes.specs.declared.keeps.KeepFault.{KeepFault}
-use Rattle.mm_nodes.specs.declared.keeps.KeepFault.TheVariants.{Full}
+use Rattle.mm_nodes.specs.declared.keeps.KeepFault.TheVariants.{Full, NoMemory}
+use Rattle.mm_least.specs.Transitions.{TransitionValue, IsKnown, IsTableOf}
 use Rattle.mm_least.specs.NodeRowsValue.{NodeValue}
+use Rattle.mm_least.specs.declared.row.Row.{Row}
 use Rattle.mm_least.specs.Rows.{shown}
 use Rattle.mm_least.specs.Candidates.{put_all, held, typed, types_of, leaf_candidates, pairs_of}
 use Rattle.mm_least.specs.Passes.{AreWithin, AreOperands, AreLight}
@@ -35,12 +37,13 @@ pub record IsLeafRows (fr : Frame) (T : Tree) (n : NodeValue) : Type 0 where
   pub within : AreWithin fr.F fr.lists (shown n.rows)
   pub rows : held fr.F fr.lists n.rows ≡ put_all (leaf_candidates fr.f fr.F T) []
 
--- The rows are the best of what a join offers: each row of the left child with each of the right one.
+-- The rows are the best of what a join offers: each row of the left child with each of the right one; and what is known is of its operator.
 pub record IsJoinRows (fr : Frame) (op : Op) (a b n : NodeValue) : Type 0 where
   pub left_within : AreWithin fr.F fr.lists (shown a.rows)
   pub right_within : AreWithin fr.F fr.lists (shown b.rows)
   pub within : AreWithin fr.F fr.lists (shown n.rows)
   pub rows : held fr.F fr.lists n.rows ≡ put_all (pairs_of (join_type fr.f fr.F op) (typed fr.F fr.lists (shown a.rows)) 0 (typed fr.F fr.lists (shown b.rows))) []
+  pub known : IsKnown fr op n.known
 
 -- the types of rows
 abbrev pub row_types : Frame → NodeValue → List Value
@@ -62,3 +65,13 @@ pub record MadeRows (F : Formula) (olds nows : List (List Value)) (Is : NodeValu
 abbrev pub MakesRows : Formula → (olds nows : List (List Value)) → (NodeValue → Type 0) → List Value → ℕ → Result NodeValue KeepFault → Type 0
 MakesRows F olds nows Is vs room (Ok n) = MadeRows F olds nows Is vs room n
 MakesRows F olds nows Is vs room (Err e) = e ≡ Full → room < missing_cells F olds vs + length (distinct vs)
+
+-- The node of these rows, which knows at most what the table has, or want of memory.
+abbrev pub IsNodeOf : (rows left right : List Row) → List ℕ → Result NodeValue KeepFault → Type 0
+IsNodeOf rows left right table (Ok n) = (n.rows ≡ rows) × IsTableOf left right rows table n.known
+IsNodeOf rows left right table (Err e) = e ≡ NoMemory
+
+-- The node of these rows, which knows a transition, where they are within the room; Full only where they exceed it.
+abbrev pub IsNodeAgain : List Row → TransitionValue → ℕ → Result NodeValue KeepFault → Type 0
+IsNodeAgain rows t room (Ok n) = (n.rows ≡ rows) × (n.known ≡ Some t) × (length rows ≤ room)
+IsNodeAgain rows t room (Err e) = e ≡ Full → room < length rows

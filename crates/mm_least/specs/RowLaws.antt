@@ -1,5 +1,5 @@
 -- The laws of rows.
-use Rattle.std.proofs.Common.{◌≡◌, ◌<◌, ◌≤◌, ◌+◌, ◌*◌, ◌+ℤ◌, ℕ, zero, suc, ℤ, nat_abs, Bool, true, false, ◌||◌, if◌then◌else◌, int_lt, List, [], ◌∷◌, ◌++◌, map, length, get_or, refl, sym, ap, ◌∙◌, subst, arith, length-append}
+use Rattle.std.proofs.Common.{◌≡◌, ◌<◌, ◌≤◌, ◌+◌, ◌*◌, ◌+ℤ◌, ℕ, zero, suc, ℤ, nat_abs, Bool, true, false, ◌||◌, if◌then◌else◌, int_lt, List, [], ◌∷◌, ◌++◌, map, length, get_or, Option, Some, None, refl, sym, ap, ◌∙◌, subst, arith, length-append}
 use Rattle.std.specs.List.{list_any}
 use Rattle.std.proofs.lemmas.Int.{ints}
 use Rattle.std.proofs.lemmas.List.{length-map}
@@ -29,10 +29,11 @@ use Rattle.mm_nodes.specs.KeptTrees.KeptTree.{One, Two}
 use Rattle.mm_nodes.specs.Demands.{Frame, HasTypes, IsWithin}
 use Rattle.mm_least.specs.declared.row.Row.{Row}
 use Rattle.mm_least.specs.declared.row.Origin.{Origin}
+use Rattle.mm_least.specs.Transitions.{TransitionValue, AreIn, ArePlaces, named, IsTransition, IsKnown}
 use Rattle.mm_least.specs.NodeRowsValue.{NodeValue}
 use Rattle.mm_least.specs.Rows.{shown}
 use Rattle.mm_least.specs.Candidates.{Candidate, candidate, put, put_all, types_of, held, typed, leaf_candidates, pairs_with, pairs_of}
-use Rattle.mm_least.specs.BestLaws.{best-members, best-count}
+use Rattle.mm_least.specs.BestLaws.{Different, best-members, best-count}
 use Rattle.mm_least.specs.Passes.{AreWithin, AreOperands, AreLight, most_sum}
 use Rattle.mm_least.specs.RowCalls.{IsLeafRows, IsJoinRows, CanBeJoined, row_types}
 
@@ -121,6 +122,36 @@ leaf_stays fr lists T n b h = record {
   rows = held-stays fr.F fr.lists lists n.rows b h.within ∙ h.rows;
 }
 
+pub ids-within : (F : Formula) (olds nows : List (List Value)) (ids : List ℕ) → AllBegin olds nows → AreIn F olds ids → AreIn F nows ids
+ids-within F olds nows [] b h = tt
+ids-within F olds nows (id ∷ ids) b h = (within-begins F olds nows id b h.0, ids-within F olds nows ids b h.1)
+
+pub ids-stay : (F : Formula) (olds nows : List (List Value)) (ids : List ℕ) → AllBegin olds nows → AreIn F olds ids → map (type_at F nows) ids ≡ map (type_at F olds) ids
+ids-stay F olds nows [] b h = refl
+ids-stay F olds nows (id ∷ ids) b h = (λ i. type_at-begins F olds nows id b h.0 i ∷ ids-stay F olds nows ids b h.1 i)
+
+id_within : (F : Formula) (lists : List (List Value)) (ids : List ℕ) (p : ℕ) → AreIn F lists ids → p < length ids → get_or ids p 0 < length (root F lists)
+id_within F lists [] p h l = absurd (omega (arith, l))
+id_within F lists (id ∷ ids) zero h l = h.0
+id_within F lists (id ∷ ids) (suc p) h l = id_within F lists ids p h.1 (omega (arith, l))
+
+named_within : (F : Formula) (lists : List (List Value)) (ids places : List ℕ) → AreIn F lists ids → ArePlaces ids places → AreIn F lists (named ids places)
+named_within F lists ids [] h k = tt
+named_within F lists ids (p ∷ places) h k = (id_within F lists ids p h k.0, named_within F lists ids places h k.1)
+
+known_stays : (fr : Frame) (lists : List (List Value)) (op : Op) (known : Option TransitionValue) → AllBegin fr.lists lists → IsKnown fr op known → IsKnown (record fr { lists = lists }) op known
+known_stays fr lists op None b h = tt
+known_stays fr lists op (Some t) b h = record {
+  left_within = ids-within fr.F fr.lists lists t.left b h.left_within;
+  right_within = ids-within fr.F fr.lists lists t.right b h.right_within;
+  within = ids-within fr.F fr.lists lists t.ids b h.within;
+  different = subst Different (sym (ids-stay fr.F fr.lists lists t.ids b h.within)) h.different;
+  placed = h.placed;
+  tells =
+      ids-stay fr.F fr.lists lists (named t.ids t.table) b (named_within fr.F fr.lists t.ids t.table h.within h.placed) ∙ h.tells
+      ∙ (λ i. all_pairs (join_type fr.f fr.F op) (sym (ids-stay fr.F fr.lists lists t.left b h.left_within) i) (sym (ids-stay fr.F fr.lists lists t.right b h.right_within) i));
+}
+
 pub join_stays : (fr : Frame) (lists : List (List Value)) (op : Op) (a b n : NodeValue) → AllBegin fr.lists lists → IsJoinRows fr op a b n → IsJoinRows (record fr { lists = lists }) op a b n
 join_stays fr lists op a b n g h = record {
   left_within = within-stays fr.F fr.lists lists (shown a.rows) g h.left_within;
@@ -129,6 +160,7 @@ join_stays fr lists op a b n g h = record {
   rows =
       held-stays fr.F fr.lists lists n.rows g h.within ∙ h.rows
       ∙ (λ i. put_all (pairs_of (join_type fr.f fr.F op) (sym (typed-stays fr.F fr.lists lists (shown a.rows) g h.left_within) i) 0 (sym (typed-stays fr.F fr.lists lists (shown b.rows) g h.right_within) i)) []);
+  known = known_stays fr lists op n.known g h.known;
 }
 
 -- a parent can tell no more of rows than what they show
@@ -141,6 +173,7 @@ same_left fr op a b c n e h = record {
   right_within = h.right_within;
   within = h.within;
   rows = h.rows ∙ ap (λ ps. put_all (pairs_of (join_type fr.f fr.F op) (typed fr.F fr.lists ps) 0 (typed fr.F fr.lists (shown c.rows))) []) (sym e);
+  known = h.known;
 }
 
 pub same_right : (fr : Frame) (op : Op) (a b c n : NodeValue) → ShowSame c b → IsJoinRows fr op a b n → IsJoinRows fr op a c n
@@ -149,6 +182,7 @@ same_right fr op a b c n e h = record {
   right_within = subst (AreWithin fr.F fr.lists) (sym e) h.right_within;
   within = h.within;
   rows = h.rows ∙ ap (λ ps. put_all (pairs_of (join_type fr.f fr.F op) (typed fr.F fr.lists (shown a.rows)) 0 (typed fr.F fr.lists ps)) []) (sym e);
+  known = h.known;
 }
 
 pub same_itself : (a : NodeValue) → ShowSame a a

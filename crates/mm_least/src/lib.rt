@@ -2,11 +2,14 @@
 #![tactic(auto)]
 
 mod best;
+mod known;
 mod laws;
 mod least;
+mod log;
 mod node_rows;
 mod pass;
 mod row;
+mod transition;
 
 pub use best::Best;
 pub use laws::rows_are_first_sets;

@@ -13,41 +13,48 @@ ghost use Rattle.mm_states.specs.Calls.{IsRoomy};
 ghost use Rattle.mm_tree.specs.NamedTree.{Tree, shape};
 ghost use Rattle.mm_tree.specs.Nodes.{named_leaf};
 ghost use Rattle.mm_nodes.specs.Demands.{Frame, IsExact, frame};
-ghost use Rattle.mm_nodes.specs.Calls.{CanMakeLeaf};
+ghost use Rattle.mm_nodes.specs.Calls.{CanMakeLeaf, IsOfJoin};
 ghost use Rattle.mm_least.specs.Rows.{shown};
 ghost use Rattle.mm_least.specs.RowLaws.{ShowSame, asks, leaf_has, join_has, fits, leaf_stays, join_stays};
 ghost use Rattle.mm_least.specs.RowLaws.{same_left, same_right, same_itself};
-ghost use Rattle.mm_least.specs.RowCalls.{IsLeafRows, IsJoinRows, CanBeJoined, MakesRows, row_types, element_name};
+ghost use Rattle.mm_least.specs.RowCalls.{IsLeafRows, IsJoinRows, CanBeJoined, MakesRows, IsNodeOf, IsNodeAgain};
+ghost use Rattle.mm_least.specs.RowCalls.{row_types, element_name};
 
+use crate::known::known_rows;
 use crate::pass::{add_leaf, add_pairs};
 use crate::row::show_same;
+use crate::transition::{Transition, ids_of, places_of};
 use crate::{LeastFault, Row};
 use mm_base::{Name, Steps};
 use mm_nodes::Keeps;
 use mm_ops::Op;
-use mm_states::Automaton;
+use mm_states::{Automaton, TypeId};
 use mm_tree::Leaf;
 use std::alloc::Global;
 use std::marker::Model;
+use std::rc::Rc;
 use std::sync::ledger::Ledger;
 
-/// One row for each type at a node, in the order of the leaf words of their sets; and the name of the element of a leaf. It is made for a
-/// node, with one step, and never copied.
+/// One row for each type at a node, in the order of the leaf words of their sets; the name of the element of a leaf; and at a join
+/// the types
+/// that its operator made. It is made for a node, with one step, and never copied.
 #[derive(Drop)]
 pub struct NodeRows {
     pub(crate) name: Option<Name>,
     pub(crate) rows: Vec<Row>,
+    pub(crate) known: Option<Rc<Transition>>,
 }
 
 impl Model for NodeRows {
     ghost use Rattle.std.specs.Prelude.{ℕ, ◌<◌, length};
+    ghost use Rattle.std.specs.Option.{option_map};
     ghost use Rattle.mm_least.specs.NodeRowsValue.{NodeValue, node_code};
 
     ghost Value = { NodeValue };
 
     ghost coded = { node_code };
 
-    ghost view = { λ s. record { name = s.name; rows = s.rows.items } };
+    ghost view = { λ s. record { name = s.name; rows = s.rows.items; known = option_map (λ t. t.value) s.known } };
 
     ghost invariant = { λ s. length s.rows.items < 4294967296 };
 }
@@ -78,6 +85,7 @@ impl NodeRows {
             Ok(()) => Ok(NodeRows {
                 name: name_of(leaf),
                 rows,
+                known: None,
             }),
             Err(fault) => Err(fault),
         }
@@ -110,6 +118,7 @@ impl NodeRows {
     {
         steps.tick();
         let mut rows = Vec::new(alloc);
+        let mut table = Vec::new(alloc);
         let mut rest = room;
         let whole = room + automaton.cells();
         match add_pairs(
@@ -121,9 +130,54 @@ impl NodeRows {
             whole,
             &mut rows,
             &mut rest,
+            &mut table,
         ) {
-            Ok(()) => Ok(NodeRows { name: None, rows }),
+            Ok(()) => joined(alloc, rows, &left.rows, &right.rows, table),
             Err(fault) => Err(fault),
+        }
+    }
+
+    /// The rows of a join, where those of a join by the same operator are known. `Full` exactly where the missing cells and the
+    /// rows exceed the room.
+    pub fn rejoin<A: Automaton, L: Ledger>(
+        alloc: Global,
+        automaton: &mut A,
+        op: &Op,
+        left: &NodeRows,
+        right: &NodeRows,
+        known: &NodeRows,
+        room: u64,
+        steps: &mut Steps<L>,
+    ) -> Result<NodeRows, LeastFault>
+        requires over { letters.IsOver (A.shape automaton.old) (A.field automaton.old) op.now.f }
+        requires left { CanBeJoined (frame op.now.f (A.shape automaton.old) (A.lists automaton.old)) op.now.op.t1 left.now }
+        requires right { CanBeJoined (frame op.now.f (A.shape automaton.old) (A.lists automaton.old)) op.now.op.t2 right.now }
+        requires known { IsOfJoin IsJoinRows (frame op.now.f (A.shape automaton.old) (A.lists automaton.old)) op.now.op known.now }
+        requires roomy { IsRoomy (A.shape automaton.old) (A.lists automaton.old) room }
+        requires exact { IsExact (A.shape automaton.old) (A.lists automaton.old) }
+        ensures shape { A.shape automaton.new ≡ A.shape automaton.old }
+        ensures field { A.field automaton.new ≡ A.field automaton.old }
+        ensures marked { A.marked automaton.new ≡ A.marked automaton.old }
+        ensures tick { steps.new ≡ steps.old + 1 }
+        ensures makes { MakesRows (A.shape automaton.old) (A.lists automaton.old) (A.lists automaton.new)
+            (IsJoinRows (frame op.now.f (A.shape automaton.old) (A.lists automaton.new)) op.now.op left.now right.now)
+            (all_pairs (join_type op.now.f (A.shape automaton.old) op.now.op)
+            (row_types (frame op.now.f (A.shape automaton.old) (A.lists automaton.old)) left.now)
+            (row_types (frame op.now.f (A.shape automaton.old) (A.lists automaton.old)) right.now)) room result }
+    {
+        let Some(transition) = &known.known else {
+            return NodeRows::join(alloc, automaton, op, left, right, room, steps);
+        };
+        match known_rows(alloc, &left.rows, &right.rows, transition) {
+            Ok(Some(rows)) => {
+                steps.tick();
+                joined_again(rows, transition, room)
+            }
+            Ok(None) => NodeRows::join(alloc, automaton, op, left, right, room, steps),
+            Err(fault) => {
+                steps.tick();
+                Err(fault)
+            }
         }
     }
 }
@@ -165,6 +219,19 @@ impl Keeps for NodeRows {
         NodeRows::join(alloc, automaton, op, left, right, room, steps)
     }
 
+    fn rejoin<A: Automaton, L: Ledger>(
+        alloc: Global,
+        automaton: &mut A,
+        op: &Op,
+        left: &NodeRows,
+        right: &NodeRows,
+        known: &NodeRows,
+        room: u64,
+        steps: &mut Steps<L>,
+    ) -> Result<NodeRows, LeastFault> {
+        NodeRows::rejoin(alloc, automaton, op, left, right, known, room, steps)
+    }
+
     fn row_count(&self) -> u32 {
         self.rows.len() as u32
     }
@@ -199,5 +266,82 @@ fn name_of(leaf: &Leaf) -> Option<Name>
     match leaf.item {
         Some(_) => Some(leaf.name),
         None => None,
+    }
+}
+
+/// No more pairs of types are kept at a node.
+const MOST_PAIRS: usize = 16384;
+
+/// The node of a join by its rows and the table of the types of all pairs.
+fn joined(
+    alloc: Global,
+    rows: Vec<Row>,
+    left: &[Row],
+    right: &[Row],
+    table: Vec<TypeId>,
+) -> Result<NodeRows, LeastFault>
+    requires { length rows.items < 4294967296 }
+    ensures { IsNodeOf rows.items left.now right.now table.items result }
+{
+    let name = None;
+    if table.len() > MOST_PAIRS {
+        let known = None;
+        return Ok(NodeRows { name, rows, known });
+    }
+    let left = match ids_of(alloc, left) {
+        Ok(ids) => ids,
+        Err(fault) => return Err(fault),
+    };
+    let right = match ids_of(alloc, right) {
+        Ok(ids) => ids,
+        Err(fault) => return Err(fault),
+    };
+    let ids = match ids_of(alloc, &rows) {
+        Ok(ids) => ids,
+        Err(fault) => return Err(fault),
+    };
+    match places_of(alloc, &ids, &table) {
+        Ok(Some(table)) => {
+            let transition = Transition {
+                left,
+                right,
+                ids,
+                table,
+            };
+            match Rc::new(alloc, transition) {
+                Ok(transition) => {
+                    let known = Some(transition);
+                    Ok(NodeRows { name, rows, known })
+                }
+                Err(_) => Err(LeastFault::NoMemory),
+            }
+        }
+        Ok(None) => {
+            let known = None;
+            Ok(NodeRows { name, rows, known })
+        }
+        Err(fault) => Err(fault),
+    }
+}
+
+/// The node of a join by its rows and a transition that was known, where the rows are within the room.
+fn joined_again(
+    rows: Vec<Row>,
+    transition: &Rc<Transition>,
+    room: u64,
+) -> Result<NodeRows, LeastFault>
+    requires { room < 4294967296 }
+    ensures { IsNodeAgain rows.items transition.now.value room result }
+{
+    if rows.len() as u64 > room {
+        return Err(LeastFault::Full);
+    }
+    match transition.clone() {
+        Ok(transition) => {
+            let name = None;
+            let known = Some(transition);
+            Ok(NodeRows { name, rows, known })
+        }
+        Err(_) => Err(LeastFault::NoMemory),
     }
 }

@@ -1,6 +1,6 @@
 //! The walk over the candidates of a node.
 
-ghost use Rattle.std.specs.Prelude.{◌≡◌, ◌<◌, ◌≤◌, ◌+◌, ℕ, ℤ, List, [], ◌∷◌, length, nat_abs, ◌+ℤ◌};
+ghost use Rattle.std.specs.Prelude.{◌≡◌, ◌<◌, ◌≤◌, ◌+◌, ℕ, ℤ, List, [], ◌∷◌, OnOk, length, nat_abs, ◌+ℤ◌};
 ghost use Rattle.mm_logic.specs.Growth.{type_at};
 ghost use Rattle.mm_logic.specs.JoinRule.{join_type};
 ghost use Rattle.mm_logic.specs.Occurrence.{nodes as parts, list_cells};
@@ -12,14 +12,15 @@ ghost use Rattle.mm_tree.specs.Nodes.{named_leaf};
 ghost use Rattle.mm_nodes.specs.Demands.{IsExact};
 ghost use Rattle.mm_nodes.specs.Calls.{CanMakeLeaf};
 ghost use Rattle.mm_least.specs.Rows.{shown};
-ghost use Rattle.mm_least.specs.Candidates.{candidate, leaf_candidates, typed, pairs_with, pairs_of};
+ghost use Rattle.mm_least.specs.Candidates.{candidate, leaf_candidates, typed, types_of, pairs_with, pairs_of};
+ghost use Rattle.mm_least.specs.Transitions.{AreIn, Told};
 ghost use Rattle.mm_least.specs.Passes.{AreWithin, Passes, IsFaultOf, AreOperands, AreLight, most_sum};
 
 use crate::row::{add_new_row, add_row, place_of, replace_row};
 use crate::{LeastFault, Origin, Row};
 use mm_nodes::letter_of;
 use mm_ops::Op;
-use mm_states::{AutoFault, Automaton, Letter};
+use mm_states::{AutoFault, Automaton, Letter, TypeId};
 use mm_tree::Leaf;
 use std::alloc::Global;
 
@@ -117,12 +118,14 @@ fn add_pair<A: Automaton>(
     whole: u64,
     rows: &mut Vec<Row>,
     room: &mut u64,
+    table: &mut Vec<TypeId>,
 ) -> Result<(), LeastFault>
     requires whole { whole ≡ room.old + length rows.old.items + list_cells (parts (A.shape automaton.old)) (A.lists automaton.old) }
     requires can { CanJoin (A.shape automaton.old) (A.field automaton.old) (A.lists automaton.old) op.now
         left.now.id right.now.id room.old }
     requires exact { IsExact (A.shape automaton.old) (A.lists automaton.old) }
     requires within { AreWithin (A.shape automaton.old) (A.lists automaton.old) (shown rows.old.items) }
+    requires listed { AreIn (A.shape automaton.old) (A.lists automaton.old) table.old.items }
     requires left { nat_abs left.now.weight ≤ most_sum }
     requires right { nat_abs right.now.weight ≤ most_sum }
     ensures shape { A.shape automaton.new ≡ A.shape automaton.old }
@@ -131,22 +134,30 @@ fn add_pair<A: Automaton>(
     ensures passes { Passes (A.shape automaton.old) (A.lists automaton.old) (A.lists automaton.new)
         (candidate (value_of_join (A.shape automaton.old) (A.lists automaton.old) op.now left.now.id right.now.id)
         (left.now.weight +ℤ right.now.weight) origin ∷ []) rows.old.items rows.new.items room.old room.new result }
+    ensures told { OnOk result (Told (A.shape automaton.old) (A.lists automaton.old) (A.lists automaton.new) table.old.items
+        table.new.items (value_of_join (A.shape automaton.old) (A.lists automaton.old) op.now left.now.id right.now.id ∷ [])) }
 {
     let weight = left.weight + right.weight;
     match automaton.join(alloc, op, left.id, right.id, *room) {
-        Ok(id) => match place_of(rows, id) {
-            // The type has a row: it was in the lists, and no cell was missing.
-            Some(place) => replace_row(Row { id, weight, origin }, place, rows),
-            None => {
-                *room = whole - rows.len() as u64 - automaton.cells();
-                add_new_row(Row { id, weight, origin }, rows, room)
+        Ok(id) => {
+            if table.push(id).is_err() {
+                return Err(LeastFault::NoMemory);
             }
-        },
+            match place_of(rows, id) {
+                // The type has a row: it was in the lists, and no cell was missing.
+                Some(place) => replace_row(Row { id, weight, origin }, place, rows),
+                None => {
+                    *room = whole - rows.len() as u64 - automaton.cells();
+                    add_new_row(Row { id, weight, origin }, rows, room)
+                }
+            }
+        }
         Err(fault) => Err(fault_of(fault)),
     }
 }
 
-/// The candidates of one left row. The room, the rows and the cells sum to `whole` throughout.
+/// The candidates of one left row, with the numbers of their types added to a table. The room, the rows and the cells sum to
+/// `whole` throughout.
 fn add_pairs_with<A: Automaton>(
     alloc: Global,
     automaton: &mut A,
@@ -157,6 +168,7 @@ fn add_pairs_with<A: Automaton>(
     whole: u64,
     rows: &mut Vec<Row>,
     room: &mut u64,
+    table: &mut Vec<TypeId>,
 ) -> Result<(), LeastFault>
     requires whole { whole ≡ room.old + length rows.old.items + list_cells (parts (A.shape automaton.old)) (A.lists automaton.old) }
     requires over { letters.IsOver (A.shape automaton.old) (A.field automaton.old) op.now.f }
@@ -168,6 +180,7 @@ fn add_pairs_with<A: Automaton>(
     requires roomy { IsRoomy (A.shape automaton.old) (A.lists automaton.old) room.old }
     requires exact { IsExact (A.shape automaton.old) (A.lists automaton.old) }
     requires within { AreWithin (A.shape automaton.old) (A.lists automaton.old) (shown rows.old.items) }
+    requires listed { AreIn (A.shape automaton.old) (A.lists automaton.old) table.old.items }
     ensures shape { A.shape automaton.new ≡ A.shape automaton.old }
     ensures field { A.field automaton.new ≡ A.field automaton.old }
     ensures marked { A.marked automaton.new ≡ A.marked automaton.old }
@@ -176,11 +189,15 @@ fn add_pairs_with<A: Automaton>(
         (type_at (A.shape automaton.old) (A.lists automaton.old) left.now.id, left.now.weight) place
         (typed (A.shape automaton.old) (A.lists automaton.old) (shown right.now)) 0)
         rows.old.items rows.new.items room.old room.new result }
+    ensures told { OnOk result (Told (A.shape automaton.old) (A.lists automaton.old) (A.lists automaton.new) table.old.items
+        table.new.items (types_of (pairs_with (join_type op.now.f (A.shape automaton.old) op.now.op)
+        (type_at (A.shape automaton.old) (A.lists automaton.old) left.now.id, left.now.weight) place
+        (typed (A.shape automaton.old) (A.lists automaton.old) (shown right.now)) 0))) }
 {
     for k in 0..right.len() {
         let origin = Origin::Pair(place, k as u32);
         match add_pair(
-            alloc, automaton, op, left, &right[k], origin, whole, rows, room,
+            alloc, automaton, op, left, &right[k], origin, whole, rows, room, table,
         ) {
             Ok(()) => {}
             Err(fault) => return Err(fault),
@@ -189,7 +206,7 @@ fn add_pairs_with<A: Automaton>(
     Ok(())
 }
 
-/// The candidates of a join. The room, the rows and the cells sum to `whole` throughout.
+/// The candidates of a join, with the numbers of their types added to a table. The room, the rows and the cells sum to `whole` throughout.
 pub(crate) fn add_pairs<A: Automaton>(
     alloc: Global,
     automaton: &mut A,
@@ -199,6 +216,7 @@ pub(crate) fn add_pairs<A: Automaton>(
     whole: u64,
     rows: &mut Vec<Row>,
     room: &mut u64,
+    table: &mut Vec<TypeId>,
 ) -> Result<(), LeastFault>
     requires whole { whole ≡ room.old + length rows.old.items + list_cells (parts (A.shape automaton.old)) (A.lists automaton.old) }
     requires over { letters.IsOver (A.shape automaton.old) (A.field automaton.old) op.now.f }
@@ -211,6 +229,7 @@ pub(crate) fn add_pairs<A: Automaton>(
     requires roomy { IsRoomy (A.shape automaton.old) (A.lists automaton.old) room.old }
     requires exact { IsExact (A.shape automaton.old) (A.lists automaton.old) }
     requires within { AreWithin (A.shape automaton.old) (A.lists automaton.old) (shown rows.old.items) }
+    requires listed { AreIn (A.shape automaton.old) (A.lists automaton.old) table.old.items }
     ensures shape { A.shape automaton.new ≡ A.shape automaton.old }
     ensures field { A.field automaton.new ≡ A.field automaton.old }
     ensures marked { A.marked automaton.new ≡ A.marked automaton.old }
@@ -219,10 +238,14 @@ pub(crate) fn add_pairs<A: Automaton>(
         (typed (A.shape automaton.old) (A.lists automaton.old) (shown left.now)) 0
         (typed (A.shape automaton.old) (A.lists automaton.old) (shown right.now)))
         rows.old.items rows.new.items room.old room.new result }
+    ensures told { OnOk result (Told (A.shape automaton.old) (A.lists automaton.old) (A.lists automaton.new) table.old.items
+        table.new.items (types_of (pairs_of (join_type op.now.f (A.shape automaton.old) op.now.op)
+        (typed (A.shape automaton.old) (A.lists automaton.old) (shown left.now)) 0
+        (typed (A.shape automaton.old) (A.lists automaton.old) (shown right.now))))) }
 {
     for k in 0..left.len() {
         match add_pairs_with(
-            alloc, automaton, op, &left[k], k as u32, right, whole, rows, room,
+            alloc, automaton, op, &left[k], k as u32, right, whole, rows, room, table,
         ) {
             Ok(()) => {}
             Err(fault) => return Err(fault),

@@ -42,7 +42,7 @@ pub(crate) fn place_of(rows: &[Row], id: TypeId) -> Option<usize>
 }
 
 /// Puts a row last.
-fn push_row(row: Row, rows: &mut Vec<Row>) -> Result<(), LeastFault>
+pub(crate) fn push_row(row: Row, rows: &mut Vec<Row>) -> Result<(), LeastFault>
     ensures { Appends row rows.old.items rows.new.items result }
 {
     match rows.push(row) {

@@ -1,12 +1,13 @@
 -- What a call that makes an entry needs, and what it answers.
 use Rattle.std.specs.Prelude.{◌≡◌, ◌<◌, ◌≤◌, ℕ, ◌+◌, List, length, Result, Ok, Err}
 use Rattle.mm_field.specs.declared.Field.{Field}
+use Rattle.mm_logic.specs.Operator.{Op}
 use Rattle.mm_logic.specs.Formula.{Formula}
 use Rattle.mm_logic.specs.Value.{Value}
 use Rattle.mm_logic.specs.Occurrence.{nodes, occurring, distinct, list_cells, cells}
 use Rattle.mm_logic.specs.Growth.{root, missing_cells, AllGrown}
 use Rattle.mm_nodes.specs.declared.TheConstants.{MAX_LIMIT, MOST_ROWS}
-use Rattle.mm_nodes.specs.Demands.{IsExact, IsWithin}
+use Rattle.mm_nodes.specs.Demands.{Frame, IsExact, IsWithin}
 use Rattle.mm_states.specs.Letters as letters
 use Rattle.mm_states.specs.Calls.{IsRoomy}
 use Rattle.mm_tree.specs.ValidTree.{IsValidTree}
@@ -43,6 +44,10 @@ pub record CanWalk (F : Formula) (g : Field) (lists : List (List Value)) (limit 
   pub exact : IsExact F lists
   pub cells : list_cells (nodes F) lists ≤ limit
   pub limited : limit ≤ MAX_LIMIT
+
+-- the entry of a join by op of some two entries
+abbrev pub IsOfJoin : {N : Type 0} → (Frame → Op → N → N → N → Type 0) → Frame → Op → N → Type 0
+IsOfJoin {N} IsJoin fr op n = (a : N) × (b : N) × IsJoin fr op a b n
 
 -- Whatever list of types has those of the root and vs: its cells and so many rows exceed the limit.
 abbrev pub Exceeds : Formula → List (List Value) → List Value → (rows limit : ℕ) → Type 0

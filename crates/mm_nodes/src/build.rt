@@ -11,7 +11,7 @@ ghost use Rattle.mm_nodes.specs.declared.TheConstants.{MAX_LIMIT, MOST_ROWS};
 ghost use Rattle.mm_nodes.specs.Demands.{Frame, IsExact, frame};
 ghost use Rattle.mm_nodes.specs.KeptTrees.{top, count, row_sum};
 ghost use Rattle.mm_nodes.specs.KeptNodes.{tree_of, IsCounted};
-ghost use Rattle.mm_nodes.specs.Calls.{CanWalk, CanMakeLeaf, IsRoom, Adds};
+ghost use Rattle.mm_nodes.specs.Calls.{CanWalk, CanMakeLeaf, IsRoom, IsOfJoin, Adds};
 ghost use Rattle.mm_nodes.specs.Walks.{Joins, Builds};
 
 use crate::{KeepFault, Keeps, Kept};
@@ -69,6 +69,49 @@ pub(crate) fn add_join<N: Keeps, A: Automaton, L: Ledger>(
         Err(fault) => return Err(fault),
     };
     match N::join(alloc, automaton, op, left, right, room, steps) {
+        Ok(entry) => {
+            *rows += entry.row_count() as u64;
+            Ok(entry)
+        }
+        Err(fault) => Err(fault),
+    }
+}
+
+/// The entry of a join, counted, where an entry of a join by the same operator is known.
+pub(crate) fn add_rejoin<N: Keeps, A: Automaton, L: Ledger>(
+    alloc: Global,
+    automaton: &mut A,
+    op: &Op,
+    left: &N,
+    right: &N,
+    known: &N,
+    limit: u64,
+    rows: &mut u64,
+    steps: &mut Steps<L>,
+) -> Result<N, KeepFault>
+    requires over { letters.IsOver (A.shape automaton.old) (A.field automaton.old) op.now.f }
+    requires left { N.Fits (frame op.now.f (A.shape automaton.old) (A.lists automaton.old)) op.now.op.t1 left.now }
+    requires right { N.Fits (frame op.now.f (A.shape automaton.old) (A.lists automaton.old)) op.now.op.t2 right.now }
+    requires known { IsOfJoin N.IsJoin (frame op.now.f (A.shape automaton.old) (A.lists automaton.old)) op.now.op known.now }
+    requires exact { IsExact (A.shape automaton.old) (A.lists automaton.old) }
+    requires cells { list_cells (parts (A.shape automaton.old)) (A.lists automaton.old) ≤ limit }
+    requires limited { limit ≤ MAX_LIMIT }
+    requires rows { rows.old ≤ MOST_ROWS }
+    ensures shape { A.shape automaton.new ≡ A.shape automaton.old }
+    ensures field { A.field automaton.new ≡ A.field automaton.old }
+    ensures marked { A.marked automaton.new ≡ A.marked automaton.old }
+    ensures tick { steps.new ≤ steps.old + 1 }
+    ensures adds { Adds N.rows (A.shape automaton.old) (A.lists automaton.old) (A.lists automaton.new)
+        (N.IsJoin (frame op.now.f (A.shape automaton.old) (A.lists automaton.new)) op.now.op left.now right.now)
+        (all_pairs (join_type op.now.f (A.shape automaton.old) op.now.op)
+        (N.types (frame op.now.f (A.shape automaton.old) (A.lists automaton.old)) left.now)
+        (N.types (frame op.now.f (A.shape automaton.old) (A.lists automaton.old)) right.now)) limit rows.old rows.new result }
+{
+    let room = match room(automaton, limit, *rows) {
+        Ok(room) => room,
+        Err(fault) => return Err(fault),
+    };
+    match N::rejoin(alloc, automaton, op, left, right, known, room, steps) {
         Ok(entry) => {
             *rows += entry.row_count() as u64;
             Ok(entry)

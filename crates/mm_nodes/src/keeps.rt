@@ -15,7 +15,7 @@ ghost use Rattle.mm_tree.specs.Nodes.{named_leaf};
 ghost use Rattle.mm_tree.specs.ValidTree.{IsValidTree};
 ghost use Rattle.mm_nodes.specs.KeptTrees.{KeptTree, StandsFor, top};
 ghost use Rattle.mm_nodes.specs.Demands.{Frame, HasTypes, IsExact, frame};
-ghost use Rattle.mm_nodes.specs.Calls.{CanMakeLeaf, Makes};
+ghost use Rattle.mm_nodes.specs.Calls.{CanMakeLeaf, Makes, IsOfJoin};
 
 use mm_base::Steps;
 use mm_ops::Op;
@@ -91,6 +91,35 @@ pub trait Keeps: Drop {
         requires over { letters.IsOver (A.shape automaton.old) (A.field automaton.old) op.now.f }
         requires left { Fits (frame op.now.f (A.shape automaton.old) (A.lists automaton.old)) op.now.op.t1 left.now }
         requires right { Fits (frame op.now.f (A.shape automaton.old) (A.lists automaton.old)) op.now.op.t2 right.now }
+        requires roomy { IsRoomy (A.shape automaton.old) (A.lists automaton.old) room }
+        requires exact { IsExact (A.shape automaton.old) (A.lists automaton.old) }
+        ensures shape { A.shape automaton.new ≡ A.shape automaton.old }
+        ensures field { A.field automaton.new ≡ A.field automaton.old }
+        ensures marked { A.marked automaton.new ≡ A.marked automaton.old }
+        ensures tick { steps.new ≡ steps.old + 1 }
+        ensures makes { Makes (A.shape automaton.old) (A.lists automaton.old) (A.lists automaton.new)
+            (IsJoin (frame op.now.f (A.shape automaton.old) (A.lists automaton.new)) op.now.op left.now right.now)
+            (all_pairs (join_type op.now.f (A.shape automaton.old) op.now.op)
+            (types (frame op.now.f (A.shape automaton.old) (A.lists automaton.old)) left.now)
+            (types (frame op.now.f (A.shape automaton.old) (A.lists automaton.old)) right.now)) room result };
+
+    /// The entry of a join, with one step, where an entry of a join by the same operator is known.
+    fn rejoin<A: Automaton, L: Ledger>(
+        alloc: Global,
+        automaton: &mut A,
+        op: &Op,
+        left: &Self,
+        right: &Self,
+        known: &Self,
+        room: u64,
+        steps: &mut Steps<L>,
+    ) -> Result<Self, KeepFault>
+    where
+        Self: Sized,
+        requires over { letters.IsOver (A.shape automaton.old) (A.field automaton.old) op.now.f }
+        requires left { Fits (frame op.now.f (A.shape automaton.old) (A.lists automaton.old)) op.now.op.t1 left.now }
+        requires right { Fits (frame op.now.f (A.shape automaton.old) (A.lists automaton.old)) op.now.op.t2 right.now }
+        requires known { IsOfJoin IsJoin (frame op.now.f (A.shape automaton.old) (A.lists automaton.old)) op.now.op known.now }
         requires roomy { IsRoomy (A.shape automaton.old) (A.lists automaton.old) room }
         requires exact { IsExact (A.shape automaton.old) (A.lists automaton.old) }
         ensures shape { A.shape automaton.new ≡ A.shape automaton.old }

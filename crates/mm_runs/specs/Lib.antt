@@ -3,3 +3,4 @@ pub mod RunLaws
 pub mod RunsValue
 pub mod RunsView
 pub mod RunsCalls
+pub mod Listing

@@ -142,6 +142,19 @@ impl Keeps for NodeRun {
         NodeRun::join(alloc, automaton, op, left, right, room, steps)
     }
 
+    fn rejoin<A: Automaton, L: Ledger>(
+        alloc: Global,
+        automaton: &mut A,
+        op: &Op,
+        left: &NodeRun,
+        right: &NodeRun,
+        _known: &NodeRun,
+        room: u64,
+        steps: &mut Steps<L>,
+    ) -> Result<NodeRun, RunFault> {
+        NodeRun::join(alloc, automaton, op, left, right, room, steps)
+    }
+
     fn row_count(&self) -> u32 {
         1
     }

@@ -1,4 +1,5 @@
-use Rattle.std.proofs.Common.{rules, ◌≡◌, ◌-◌, ◌<◌, ◌+ℤ◌, pos, sym, ap, ◌∙◌, subst, length, refl, Some, arith, w64, SFits}
+use Rattle.std.proofs.Common.{rules, true, if◌then◌else◌, [], ◌∷◌, ◌++◌, ◌≡◌, ◌-◌, ◌<◌, ◌+ℤ◌, pos, sym, ap, ◌∙◌, subst, length, refl, Some, arith, w64, SFits}
+use Rattle.std.specs.Prelude.{is_ok}
 use Rattle.std.proofs.lemmas.Int.{ints}
 use Rattle.mm_logic.specs.Formula.{Formula}
 use Rattle.mm_logic.specs.Occurrence.{nodes as parts, list_cells}
@@ -8,7 +9,7 @@ use Rattle.mm_least.specs.declared.row.Origin.TheVariants.{Out}
 use Rattle.mm_least.specs.declared.row.Row.{Row}
 use Rattle.mm_least.specs.Rows.{IsPlaceIn, Puts, AddsRow}
 use Rattle.mm_least.proofs.PassLemmas.{added_cells, cells_fit, cells_below, one_passes, known_passes, one_refused, weight_is}
-use Rattle.mm_least.proofs.WalkLemmas.{fit_at}
+use Rattle.mm_least.proofs.WalkLemmas.{fit_at, told_one, at_ok}
 use Rattle.mm_least.proofs.pass.add_pair.Goals as goal
 
 pub cells-requires : goal.cells-requires
@@ -79,3 +80,17 @@ pub returns-in-Err-clause-passes : goal.returns-in-Err-clause-passes
 returns-in-Err-clause-passes g c =
     one_refused (g.A.Automaton.shape c.args.automaton.now) (g.A.Automaton.lists c.args.automaton.now) (value_of_join (g.A.Automaton.shape c.args.automaton.now) (g.A.Automaton.lists c.args.automaton.now) c.args.op.now c.args.left.now.id c.args.right.now.id) (c.args.left.now.weight +ℤ c.args.right.now.weight) c.args.origin c.args.rows.now.items c.args.room.now
     c.in-Err.fault c.fault_of.result c.fault_of.ensures c.in-Err.ensures.answer.1
+
+pub returns-in-Some-clause-told : goal.returns-in-Some-clause-told
+returns-in-Some-clause-told g c =
+    let pushed : is_ok c.push.result ≡ true = search rules in
+    at_ok c.replace_row.result (told_one (g.A.Automaton.shape c.args.automaton.now) (g.A.Automaton.lists c.args.automaton.now) (g.A.Automaton.lists c.join.new.self)
+    (value_of_join (g.A.Automaton.shape c.args.automaton.now) (g.A.Automaton.lists c.args.automaton.now) c.args.op.now c.args.left.now.id c.args.right.now.id) c.in-Ok.id c.args.table.now.items c.push.new.self.items
+    c.in-Ok.ensures.answer.0 c.requires.listed (c.push.ensures.items ∙ ap (λ b. if b then c.args.table.now.items ++ c.in-Ok.id ∷ [] else c.args.table.now.items) pushed))
+
+pub returns-in-None-clause-told : goal.returns-in-None-clause-told
+returns-in-None-clause-told g c =
+    let pushed : is_ok c.push.result ≡ true = search rules in
+    at_ok c.add_new_row.result (told_one (g.A.Automaton.shape c.args.automaton.now) (g.A.Automaton.lists c.args.automaton.now) (g.A.Automaton.lists c.join.new.self)
+    (value_of_join (g.A.Automaton.shape c.args.automaton.now) (g.A.Automaton.lists c.args.automaton.now) c.args.op.now c.args.left.now.id c.args.right.now.id) c.in-Ok.id c.args.table.now.items c.push.new.self.items
+    c.in-Ok.ensures.answer.0 c.requires.listed (c.push.ensures.items ∙ ap (λ b. if b then c.args.table.now.items ++ c.in-Ok.id ∷ [] else c.args.table.now.items) pushed))

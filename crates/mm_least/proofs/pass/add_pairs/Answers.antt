@@ -8,16 +8,17 @@ use Rattle.mm_nodes.specs.Demands.{IsExact}
 use Rattle.mm_least.specs.declared.row.Row.{Row}
 use Rattle.mm_least.specs.declared.row.Origin.TheVariants.{Out}
 use Rattle.mm_least.specs.Rows.{shown}
-use Rattle.mm_least.specs.Candidates.{typed, pairs_with}
+use Rattle.mm_least.specs.Candidates.{types_of, typed, pairs_with}
+use Rattle.mm_least.specs.Transitions.{AreIn, Told}
 use Rattle.mm_least.specs.Passes.{Passed, AreTooMany, AreOperands, most_sum}
-use Rattle.mm_least.proofs.WalkLemmas.{passed_none, still_exact, begins, fit_at, operand_stays, operands_stay, of_step, of_full}
+use Rattle.mm_least.proofs.WalkLemmas.{passed_none, told_none, still_exact, begins, fit_at, operand_stays, operands_stay, of_step, of_told, of_full}
 use Rattle.mm_least.proofs.pass.add_pairs.Goals as goal
 
 abbrev none : Row
 none = record { id = 0; weight = pos 0; origin = Out }
 
 pub loop-k-init : goal.loop-k-init
-loop-k-init g c = (refl, refl, refl, passed_none _ _ c.args.rows.now.items c.args.room.now c.requires.exact c.requires.within)
+loop-k-init g c = (refl, refl, refl, passed_none _ _ c.args.rows.now.items c.args.room.now c.requires.exact c.requires.within, told_none _ _ c.args.table.now.items c.requires.listed)
 
 pub add_pairs_with-requires-clause-whole : goal.add_pairs_with-requires-clause-whole
 add_pairs_with-requires-clause-whole g c =
@@ -71,4 +72,12 @@ loop-k-preserved g c =
           c.args.rows.now.items c.loop-k.rows.items c.add_pairs_with.new.rows.items c.args.room.now c.loop-k.room c.add_pairs_with.new.room c.loop-k.invariant.3 nows
           (subst (λ (G : Formula). Passed G lists nows (pairs_with (join_type op.f G op.op) (type_at G lists (slice_index_or left c.loop-k.k none).id, (slice_index_or left c.loop-k.k none).weight) c.loop-k.k (typed G lists (shown right)) 0) c.loop-k.rows.items c.add_pairs_with.new.rows.items c.loop-k.room c.add_pairs_with.new.room)
           c.loop-k.invariant.0 c.in-Ok.ensures.passes),
+      of_told (g.A.Automaton.shape c.args.automaton.now) op (g.A.Automaton.lists c.args.automaton.now) lists left right c.loop-k.k none c.loop-k-test.true c.requires.left c.requires.right
+          c.args.rows.now.items c.loop-k.rows.items c.add_pairs_with.new.rows.items c.args.room.now c.loop-k.room c.add_pairs_with.new.room c.loop-k.invariant.3 nows c.args.table.now.items c.loop-k.table.items c.add_pairs_with.new.table.items c.loop-k.invariant.4
+          (subst (λ (G : Formula). Told G lists nows c.loop-k.table.items c.add_pairs_with.new.table.items (types_of (pairs_with (join_type op.f G op.op) (type_at G lists (slice_index_or left c.loop-k.k none).id, (slice_index_or left c.loop-k.k none).weight) c.loop-k.k (typed G lists (shown right)) 0)))
+          c.loop-k.invariant.0 c.in-Ok.ensures.told),
     )
+
+pub add_pairs_with-requires-clause-listed : goal.add_pairs_with-requires-clause-listed
+add_pairs_with-requires-clause-listed g c =
+    subst (λ (G : Formula). AreIn G (g.A.Automaton.lists c.loop-k.automaton) c.loop-k.table.items) (sym c.loop-k.invariant.0) c.loop-k.invariant.4.within

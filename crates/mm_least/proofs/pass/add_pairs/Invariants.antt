@@ -1,8 +1,9 @@
 use Rattle.std.proofs.Common.{◌≡◌, take}
 use Rattle.mm_logic.specs.JoinRule.{join_type}
 use Rattle.mm_least.specs.Rows.{shown}
-use Rattle.mm_least.specs.Candidates.{typed, pairs_of}
+use Rattle.mm_least.specs.Candidates.{typed, types_of, pairs_of}
 use Rattle.mm_least.specs.Passes.{Passed}
+use Rattle.mm_least.specs.Transitions.{Told}
 use Rattle.mm_least.proofs.pass.add_pairs.Given as goal
 
 abbrev pub invariant-loop-k : goal.invariant-loop-k
@@ -12,3 +13,6 @@ invariant-loop-k g l =
     × Passed (g.A.Automaton.shape l.fn.automaton) (g.A.Automaton.lists l.fn.automaton) (g.A.Automaton.lists l.automaton)
     (pairs_of (join_type l.fn.op.f (g.A.Automaton.shape l.fn.automaton) l.fn.op.op) (typed (g.A.Automaton.shape l.fn.automaton) (g.A.Automaton.lists l.fn.automaton) (shown (take l.k l.fn.left))) 0
     (typed (g.A.Automaton.shape l.fn.automaton) (g.A.Automaton.lists l.fn.automaton) (shown l.fn.right))) l.fn.rows.items l.rows.items l.fn.room l.room
+    × Told (g.A.Automaton.shape l.fn.automaton) (g.A.Automaton.lists l.fn.automaton) (g.A.Automaton.lists l.automaton) l.fn.table.items l.table.items
+    (types_of (pairs_of (join_type l.fn.op.f (g.A.Automaton.shape l.fn.automaton) l.fn.op.op) (typed (g.A.Automaton.shape l.fn.automaton) (g.A.Automaton.lists l.fn.automaton) (shown (take l.k l.fn.left))) 0
+    (typed (g.A.Automaton.shape l.fn.automaton) (g.A.Automaton.lists l.fn.automaton) (shown l.fn.right))))

@@ -6,16 +6,17 @@ use Rattle.mm_states.specs.Calls.{CanJoin, IsOperand, value_of_join}
 use Rattle.mm_nodes.specs.Demands.{IsExact}
 use Rattle.mm_least.specs.declared.row.Row.{Row}
 use Rattle.mm_least.specs.declared.row.Origin.TheVariants.{Out, Pair}
-use Rattle.mm_least.specs.Candidates.{candidate}
+use Rattle.mm_least.specs.Candidates.{types_of, candidate}
+use Rattle.mm_least.specs.Transitions.{AreIn, Told}
 use Rattle.mm_least.specs.Passes.{Passed, AreTooMany, most_sum}
-use Rattle.mm_least.proofs.WalkLemmas.{passed_none, still_exact, begins, still_roomy, fit_at, operand_stays, with_step, with_full}
+use Rattle.mm_least.proofs.WalkLemmas.{passed_none, told_none, still_exact, begins, still_roomy, fit_at, operand_stays, with_step, with_told, with_full}
 use Rattle.mm_least.proofs.pass.add_pairs_with.Goals as goal
 
 abbrev none : Row
 none = record { id = 0; weight = pos 0; origin = Out }
 
 pub loop-k-init : goal.loop-k-init
-loop-k-init g c = (refl, refl, refl, passed_none _ _ c.args.rows.now.items c.args.room.now c.requires.exact c.requires.within)
+loop-k-init g c = (refl, refl, refl, passed_none _ _ c.args.rows.now.items c.args.room.now c.requires.exact c.requires.within, told_none _ _ c.args.table.now.items c.requires.listed)
 
 pub add_pair-requires-clause-whole : goal.add_pair-requires-clause-whole
 add_pair-requires-clause-whole g c =
@@ -74,4 +75,12 @@ loop-k-preserved g c =
           c.args.rows.now.items c.loop-k.rows.items c.add_pair.new.rows.items c.args.room.now c.loop-k.room c.add_pair.new.room c.loop-k.invariant.3 nows
           (subst (λ (G : Formula). Passed G lists nows (candidate (value_of_join G lists op left.id (slice_index_or right c.loop-k.k none).id) (left.weight +ℤ (slice_index_or right c.loop-k.k none).weight) (Pair c.args.place c.loop-k.k) ∷ []) c.loop-k.rows.items c.add_pair.new.rows.items c.loop-k.room c.add_pair.new.room)
           c.loop-k.invariant.0 c.in-Ok.ensures.passes),
+      with_told F op olds lists left c.args.place right c.loop-k.k none c.loop-k-test.true c.requires.left.within c.requires.right
+          c.args.rows.now.items c.loop-k.rows.items c.add_pair.new.rows.items c.args.room.now c.loop-k.room c.add_pair.new.room c.loop-k.invariant.3 nows c.args.table.now.items c.loop-k.table.items c.add_pair.new.table.items c.loop-k.invariant.4
+          (subst (λ (G : Formula). Told G lists nows c.loop-k.table.items c.add_pair.new.table.items (types_of (candidate (value_of_join G lists op left.id (slice_index_or right c.loop-k.k none).id) (left.weight +ℤ (slice_index_or right c.loop-k.k none).weight) (Pair c.args.place c.loop-k.k) ∷ [])))
+          c.loop-k.invariant.0 c.in-Ok.ensures.told),
     )
+
+pub add_pair-requires-clause-listed : goal.add_pair-requires-clause-listed
+add_pair-requires-clause-listed g c =
+    subst (λ (G : Formula). AreIn G (g.A.Automaton.lists c.loop-k.automaton) c.loop-k.table.items) (sym c.loop-k.invariant.0) c.loop-k.invariant.4.within

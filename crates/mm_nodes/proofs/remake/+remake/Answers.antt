@@ -11,7 +11,7 @@ use Rattle.mm_nodes.proofs.StandsLemmas.{Laws}
 use Rattle.mm_nodes.proofs.RoomLemmas.{exact_none}
 use Rattle.mm_nodes.proofs.WalkLemmas.{Meets, meets, meets_leaf, left_walks, right_walks, join_over, left_less, right_less}
 use Rattle.mm_nodes.proofs.RemakeLemmas.{path_here, at_place}
-use Rattle.mm_nodes.proofs.StepUpLemmas.{left_way, right_way, left_below, right_below, left_exact, right_exact, left_made_fits, right_made_fits, left_other_fits, right_other_fits, left_remakes, right_remakes, left_below_full, right_below_full, path_short, no_leaf}
+use Rattle.mm_nodes.proofs.StepUpLemmas.{left_way, right_way, left_below, right_below, left_exact, right_exact, left_known, right_known, left_made_fits, right_made_fits, left_other_fits, right_other_fits, left_remakes, right_remakes, left_below_full, right_below_full, path_short, no_leaf}
 use Rattle.mm_nodes.proofs.remake.+remake.Given as given
 use Rattle.mm_nodes.proofs.remake.+remake.Goals as goal
 
@@ -132,6 +132,21 @@ step_from_left-requires-clause-exact g t c =
     let before : c.nodes-before.result ≡ count a = c.nodes-before.ensures ∙ ap (λ x. count (tree_of x)) c.deref.ensures in
     let turn : c.args.at - 1 < count a = subst (λ k. c.args.at - 1 < k) before c.if-at-before.true in
     left_exact g.N.Keeps (the_laws g) (g.A.Automaton.shape c.args.automaton.now) c.args.node.now n op l.value r.value m R (tree_of c.args.new.now) c.in-Two.above.entry a b kept c.args.at c.if-at-eq0.false turn (c.args.at - 1) refl (g.A.Automaton.lists c.args.automaton.now) c.requires.parts (g.A.Automaton.lists c.remake.new.automaton) c.args.limit c.args.rows.now c.remake.new.rows c.remake.new.made.items c.deref-then-at-before.result.now (tree_of c.deref-then-at-before-2.result.now) c.deref-then-at-before.ensures (ap tree_of c.deref-then-at-before-2.ensures) (g.A.Automaton.shape c.remake.new.automaton) c.in-Ok.changed c.remake.ensures.shape c.requires.can.exact c.in-Ok.ensures.remakes
+
+pub step_from_left-requires-clause-known : goal.step_from_left-requires-clause-known
+step_from_left-requires-clause-known g t c =
+    let n = c.in-Join.field-0 in
+    let op = c.in-Join.op in
+    let l = c.in-Join.left in
+    let r = c.in-Join.right in
+    let m : Meets c.args.node.now n op l.value r.value = meets c.args.node.now n op l r c.in-Join.is c.requires.can.over c.requires.can.valid in
+    let R : KeptTree g.row.N.Denot = tree_of c.args.kept.now in
+    let a : KeptTree g.row.N.Denot = tree_of c.in-Two.first.value in
+    let b : KeptTree g.row.N.Denot = tree_of c.in-Two.second.value in
+    let kept : R ≡ Two c.in-Two.above.entry a b = ap tree_of c.in-Two.is in
+    let before : c.nodes-before.result ≡ count a = c.nodes-before.ensures ∙ ap (λ x. count (tree_of x)) c.deref.ensures in
+    let turn : c.args.at - 1 < count a = subst (λ k. c.args.at - 1 < k) before c.if-at-before.true in
+    left_known g.N.Keeps (the_laws g) (g.A.Automaton.shape c.args.automaton.now) c.args.node.now n op l.value r.value m R (tree_of c.args.new.now) c.in-Two.above.entry a b kept c.args.at c.if-at-eq0.false turn (c.args.at - 1) refl (g.A.Automaton.lists c.args.automaton.now) c.requires.parts (g.A.Automaton.lists c.remake.new.automaton) c.args.limit c.args.rows.now c.remake.new.rows c.remake.new.made.items c.deref-then-at-before.result.now (tree_of c.deref-then-at-before-2.result.now) c.deref-then-at-before.ensures (ap tree_of c.deref-then-at-before-2.ensures) (g.A.Automaton.shape c.remake.new.automaton) c.in-Ok.changed c.entry-in-Ok.result.now c.remake.ensures.shape c.entry-in-Ok.ensures c.in-Ok.ensures.remakes
 
 pub step_from_left-requires-clause-small : goal.step_from_left-requires-clause-small
 step_from_left-requires-clause-small g t c =
@@ -314,6 +329,22 @@ step_from_right-requires-clause-exact g t c =
     let turn : count a ≤ c.args.at - 1 = subst (λ k. k ≤ c.args.at - 1) before c.if-at-before.false in
     let lower : c.args.at - 1 - c.nodes-before.result ≡ c.args.at - 1 - count a = ap (λ k. c.args.at - 1 - k) before in
     right_exact g.N.Keeps (the_laws g) (g.A.Automaton.shape c.args.automaton.now) c.args.node.now n op l.value r.value m R (tree_of c.args.new.now) c.in-Two.above.entry a b kept c.args.at c.if-at-eq0.false turn (c.args.at - 1 - c.nodes-before.result) lower (g.A.Automaton.lists c.args.automaton.now) c.requires.parts (g.A.Automaton.lists c.remake-else-at-before.new.automaton) c.args.limit c.args.rows.now c.remake-else-at-before.new.rows c.remake-else-at-before.new.made.items c.deref-else-at-before.result.now (tree_of c.deref-else-at-before-2.result.now) c.deref-else-at-before.ensures (ap tree_of c.deref-else-at-before-2.ensures) (g.A.Automaton.shape c.remake-else-at-before.new.automaton) c.in-Ok-remake.changed c.remake-else-at-before.ensures.shape c.requires.can.exact c.in-Ok-remake.ensures.remakes
+
+pub step_from_right-requires-clause-known : goal.step_from_right-requires-clause-known
+step_from_right-requires-clause-known g t c =
+    let n = c.in-Join.field-0 in
+    let op = c.in-Join.op in
+    let l = c.in-Join.left in
+    let r = c.in-Join.right in
+    let m : Meets c.args.node.now n op l.value r.value = meets c.args.node.now n op l r c.in-Join.is c.requires.can.over c.requires.can.valid in
+    let R : KeptTree g.row.N.Denot = tree_of c.args.kept.now in
+    let a : KeptTree g.row.N.Denot = tree_of c.in-Two.first.value in
+    let b : KeptTree g.row.N.Denot = tree_of c.in-Two.second.value in
+    let kept : R ≡ Two c.in-Two.above.entry a b = ap tree_of c.in-Two.is in
+    let before : c.nodes-before.result ≡ count a = c.nodes-before.ensures ∙ ap (λ x. count (tree_of x)) c.deref.ensures in
+    let turn : count a ≤ c.args.at - 1 = subst (λ k. k ≤ c.args.at - 1) before c.if-at-before.false in
+    let lower : c.args.at - 1 - c.nodes-before.result ≡ c.args.at - 1 - count a = ap (λ k. c.args.at - 1 - k) before in
+    right_known g.N.Keeps (the_laws g) (g.A.Automaton.shape c.args.automaton.now) c.args.node.now n op l.value r.value m R (tree_of c.args.new.now) c.in-Two.above.entry a b kept c.args.at c.if-at-eq0.false turn (c.args.at - 1 - c.nodes-before.result) lower (g.A.Automaton.lists c.args.automaton.now) c.requires.parts (g.A.Automaton.lists c.remake-else-at-before.new.automaton) c.args.limit c.args.rows.now c.remake-else-at-before.new.rows c.remake-else-at-before.new.made.items c.deref-else-at-before.result.now (tree_of c.deref-else-at-before-2.result.now) c.deref-else-at-before.ensures (ap tree_of c.deref-else-at-before-2.ensures) (g.A.Automaton.shape c.remake-else-at-before.new.automaton) c.in-Ok-remake.changed c.entry-in-Ok-remake.result.now c.remake-else-at-before.ensures.shape c.entry-in-Ok-remake.ensures c.in-Ok-remake.ensures.remakes
 
 pub step_from_right-requires-clause-small : goal.step_from_right-requires-clause-small
 step_from_right-requires-clause-small g t c =

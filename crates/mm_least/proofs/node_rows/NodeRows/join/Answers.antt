@@ -1,12 +1,12 @@
 use Rattle.std.proofs.Common.{◌≡◌, List, [], ap, ◌∙◌, subst}
 use Rattle.mm_logic.specs.JoinRule.{join_type}
-use Rattle.mm_nodes.specs.Demands.{frame}
 use Rattle.mm_least.specs.declared.row.Row.{Row}
 use Rattle.mm_least.specs.Rows.{shown}
-use Rattle.mm_least.specs.Candidates.{typed, pairs_of}
+use Rattle.mm_least.specs.Candidates.{typed, types_of, pairs_of}
 use Rattle.mm_least.specs.Passes.{Passed, AreTooMany}
-use Rattle.mm_least.specs.RowCalls.{IsJoinRows}
-use Rattle.mm_least.proofs.NodeLemmas.{joins_rows, made_rows, too_many_rows}
+use Rattle.mm_least.specs.Transitions.{Told}
+use Rattle.mm_least.specs.RowCalls.{IsNodeOf}
+use Rattle.mm_least.proofs.NodeLemmas.{node_made, too_many_rows}
 use Rattle.mm_least.specs.RowLaws.{of-types}
 use Rattle.mm_least.proofs.node_rows.NodeRows.join.Goals as goal
 
@@ -23,9 +23,15 @@ returns-in-Ok-clause-makes g c =
     subst (λ (rs : List Row). Passed F olds nows (pairs_of j (typed F olds (shown c.args.left.now.rows)) 0 (typed F olds (shown c.args.right.now.rows))) rs c.add_pairs.new.rows.items c.args.room c.add_pairs.new.room) c.new-rows.ensures.items
     (subst (λ (rs : List Row). Passed F olds nows (pairs_of j (typed F olds (shown c.args.left.now.rows)) 0 (typed F olds (shown rs))) c.new-rows.result.items c.add_pairs.new.rows.items c.args.room c.add_pairs.new.room) r
     (subst (λ (rs : List Row). Passed F olds nows (pairs_of j (typed F olds (shown rs)) 0 (typed F olds (shown c.deref-2.result.now))) c.new-rows.result.items c.add_pairs.new.rows.items c.args.room c.add_pairs.new.room) l c.in-Ok.ensures.passes)) in
-    made_rows F olds nows (pairs_of j (typed F olds (shown c.args.left.now.rows)) 0 (typed F olds (shown c.args.right.now.rows))) _ (of-types F olds j c.args.left.now.rows c.args.right.now.rows 0) c.args.room
-    (IsJoinRows (frame op.f F nows) op.op c.args.left.now c.args.right.now) _ c.add_pairs.new.room
-    (joins_rows F op olds nows c.args.left.now c.args.right.now _ c.requires.left.operands c.requires.right.operands c.args.room c.add_pairs.new.room p) p
+    let again_left : c.deref-in-Ok.result.now ≡ c.args.left.now.rows = c.deref-in-Ok.ensures.value ∙ ap (λ v. v.rows) c.left.view_is in
+    let again_right : c.deref-in-Ok-2.result.now ≡ c.args.right.now.rows = c.deref-in-Ok-2.ensures.value ∙ ap (λ v. v.rows) c.right.view_is in
+    let told : Told F olds nows [] c.add_pairs.new.table.items (types_of (pairs_of j (typed F olds (shown c.args.left.now.rows)) 0 (typed F olds (shown c.args.right.now.rows)))) =
+    subst (λ ts. Told F olds nows ts c.add_pairs.new.table.items (types_of (pairs_of j (typed F olds (shown c.args.left.now.rows)) 0 (typed F olds (shown c.args.right.now.rows))))) c.new-table.ensures.items
+    (subst (λ (rs : List Row). Told F olds nows c.new-table.result.items c.add_pairs.new.table.items (types_of (pairs_of j (typed F olds (shown c.args.left.now.rows)) 0 (typed F olds (shown rs))))) r
+    (subst (λ (rs : List Row). Told F olds nows c.new-table.result.items c.add_pairs.new.table.items (types_of (pairs_of j (typed F olds (shown rs)) 0 (typed F olds (shown c.deref-2.result.now))))) l c.in-Ok.ensures.told)) in
+    node_made F op olds nows c.args.left.now c.args.right.now c.requires.left.operands c.requires.right.operands c.add_pairs.new.rows.items c.args.room c.add_pairs.new.room p c.add_pairs.new.table.items told c.joined.result
+    (subst (λ (rs : List Row). IsNodeOf c.add_pairs.new.rows.items c.args.left.now.rows rs c.add_pairs.new.table.items c.joined.result) again_right
+    (subst (λ (rs : List Row). IsNodeOf c.add_pairs.new.rows.items rs c.deref-in-Ok-2.result.now c.add_pairs.new.table.items c.joined.result) again_left c.joined.ensures))
 
 pub returns-in-Err-clause-makes : goal.returns-in-Err-clause-makes
 returns-in-Err-clause-makes g c = λ full.

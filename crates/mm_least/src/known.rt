@@ -1,0 +1,147 @@
+//! The walk over the candidates of a join whose types are known.
+
+ghost use Rattle.std.specs.Prelude.{◌≡◌, ◌<◌, ◌≤◌, ◌*◌, ◌+ℤ◌, ℕ, length, nat_abs, slice_index_or};
+ghost use Rattle.mm_least.specs.Rows.{shown};
+ghost use Rattle.mm_least.specs.Candidates.{typed_by, pairs_with, pairs_of};
+ghost use Rattle.mm_least.specs.Passes.{AreLight, most_sum};
+ghost use Rattle.mm_least.specs.Transitions.{ArePlaces};
+ghost use Rattle.mm_least.specs.Logs.{AreApart, IsLog, Offers};
+ghost use Rattle.mm_least.specs.KnownRows.{LogsKnown, RowsKnown};
+
+use crate::log::{Entry, offer, standing};
+use crate::transition::{Transition, place_near};
+use crate::{LeastFault, Origin, Row};
+use mm_states::TypeId;
+use std::alloc::Global;
+
+/// The candidate of two rows, whose type has a place.
+fn offer_pair(
+    ids: &[TypeId],
+    place: u32,
+    left: &Row,
+    right: &Row,
+    origin: Origin,
+    lasts: &mut Vec<Option<usize>>,
+    log: &mut Vec<Entry>,
+) -> Result<(), LeastFault>
+    requires there { place < length ids.now }
+    requires apart { AreApart ids.now }
+    requires left { nat_abs left.now.weight ≤ most_sum }
+    requires right { nat_abs right.now.weight ≤ most_sum }
+    requires log { IsLog ids.now lasts.old.items log.old.items }
+    ensures { Offers ids.now (record {
+      id = slice_index_or ids.now place 0;
+      weight = left.now.weight +ℤ right.now.weight;
+      origin = origin;
+    }) log.old.items lasts.new.items log.new.items result }
+{
+    let id = ids[place as usize];
+    let weight = left.weight + right.weight;
+    offer(ids, place, Row { id, weight, origin }, lasts, log)
+}
+
+/// The candidates of the left row of a place, which is at `at` in the table; false where the table lacks the type of a row.
+fn offer_with(
+    left: &Row,
+    place: u32,
+    at: usize,
+    right: &[Row],
+    transition: &Transition,
+    lasts: &mut Vec<Option<usize>>,
+    log: &mut Vec<Entry>,
+) -> Result<bool, LeastFault>
+    requires sized { length transition.now.table ≡ length transition.now.left * length transition.now.right }
+    requires placed { ArePlaces transition.now.ids transition.now.table }
+    requires apart { AreApart transition.now.ids }
+    requires there { at < length transition.now.left }
+    requires here { slice_index_or transition.now.left at 0 ≡ left.now.id }
+    requires left_light { nat_abs left.now.weight ≤ most_sum }
+    requires right_light { AreLight (shown right.now) }
+    requires few { length right.now < 4294967296 }
+    requires log { IsLog transition.now.ids lasts.old.items log.old.items }
+    ensures { LogsKnown transition.now (λ type join. pairs_with join (type left.now.id, left.now.weight) place
+        (typed_by type (shown right.now)) 0) log.old.items lasts.new.items log.new.items result }
+{
+    let start = at * transition.right.len();
+    let mut guess = 0;
+    for k in 0..right.len() {
+        let Some(column) = place_near(&transition.right, right[k].id, guess) else {
+            return Ok(false);
+        };
+        guess = column + 1;
+        let made = transition.table[start + column];
+        let origin = Origin::Pair(place, k as u32);
+        match offer_pair(&transition.ids, made, left, &right[k], origin, lasts, log) {
+            Ok(()) => {}
+            Err(fault) => return Err(fault),
+        }
+    }
+    Ok(true)
+}
+
+/// The candidates of a join; false where the table lacks the type of a row.
+fn offer_all(
+    left: &[Row],
+    right: &[Row],
+    transition: &Transition,
+    lasts: &mut Vec<Option<usize>>,
+    log: &mut Vec<Entry>,
+) -> Result<bool, LeastFault>
+    requires sized { length transition.now.table ≡ length transition.now.left * length transition.now.right }
+    requires placed { ArePlaces transition.now.ids transition.now.table }
+    requires apart { AreApart transition.now.ids }
+    requires left_light { AreLight (shown left.now) }
+    requires few_left { length left.now < 4294967296 }
+    requires right_light { AreLight (shown right.now) }
+    requires few { length right.now < 4294967296 }
+    requires log { IsLog transition.now.ids lasts.old.items log.old.items }
+    ensures { LogsKnown transition.now (λ type join. pairs_of join (typed_by type (shown left.now)) 0 (typed_by type (shown right.now)))
+        log.old.items lasts.new.items log.new.items result }
+{
+    let mut guess = 0;
+    for k in 0..left.len() {
+        let Some(at) = place_near(&transition.left, left[k].id, guess) else {
+            return Ok(false);
+        };
+        guess = at + 1;
+        match offer_with(&left[k], k as u32, at, right, transition, lasts, log) {
+            Ok(true) => {}
+            Ok(false) => return Ok(false),
+            Err(fault) => return Err(fault),
+        }
+    }
+    Ok(true)
+}
+
+/// The rows of a join, by the types that are known; none where the table lacks the type of a row.
+pub(crate) fn known_rows(
+    alloc: Global,
+    left: &[Row],
+    right: &[Row],
+    transition: &Transition,
+) -> Result<Option<Vec<Row>>, LeastFault>
+    requires sized { length transition.now.table ≡ length transition.now.left * length transition.now.right }
+    requires placed { ArePlaces transition.now.ids transition.now.table }
+    requires apart { AreApart transition.now.ids }
+    requires left_light { AreLight (shown left.now) }
+    requires few_left { length left.now < 4294967296 }
+    requires right_light { AreLight (shown right.now) }
+    requires few { length right.now < 4294967296 }
+    ensures { RowsKnown transition.now (λ type join. pairs_of join (typed_by type (shown left.now)) 0 (typed_by type (shown right.now)))
+        result }
+{
+    let Ok(mut lasts) = Vec::from_elem(alloc, None, transition.ids.len()) else {
+        return Err(LeastFault::NoMemory);
+    };
+    let Ok(mut log) = Vec::with_capacity(alloc, transition.ids.len()) else {
+        return Err(LeastFault::NoMemory);
+    };
+    match offer_all(left, right, transition, &mut lasts, &mut log) {
+        Ok(true) => match standing(alloc, &lasts, &log) {
+            Ok(rows) => Ok(Some(rows)),
+            Err(fault) => Err(fault),
+        },
+        Ok(false) => Ok(None),
+        Err(fault) => Err(fault),
+    }
+}
