@@ -4,6 +4,7 @@ pub mod BestLaws
 pub mod Passes
 pub mod Transitions
 pub mod Logs
+pub mod FoundTypes
 pub mod KnownRows
 pub mod NodeRowsValue
 pub mod RowCalls

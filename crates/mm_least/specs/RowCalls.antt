@@ -66,10 +66,10 @@ abbrev pub MakesRows : Formula → (olds nows : List (List Value)) → (NodeValu
 MakesRows F olds nows Is vs room (Ok n) = MadeRows F olds nows Is vs room n
 MakesRows F olds nows Is vs room (Err e) = e ≡ Full → room < missing_cells F olds vs + length (distinct vs)
 
--- The node of these rows, which knows at most what the table has, or want of memory.
-abbrev pub IsNodeOf : (rows left right : List Row) → List ℕ → Result NodeValue KeepFault → Type 0
-IsNodeOf rows left right table (Ok n) = (n.rows ≡ rows) × IsTableOf left right rows table n.known
-IsNodeOf rows left right table (Err e) = e ≡ NoMemory
+-- The node of these rows, which knows at most the table of the places of these numbers, or want of memory.
+abbrev pub IsNodeOf : (rows left right : List Row) → (ids table : List ℕ) → Result NodeValue KeepFault → Type 0
+IsNodeOf rows left right ids table (Ok n) = (n.rows ≡ rows) × IsTableOf left right ids table n.known
+IsNodeOf rows left right ids table (Err e) = e ≡ NoMemory
 
 -- The node of these rows, which knows a transition, where they are within the room; Full only where they exceed it.
 abbrev pub IsNodeAgain : List Row → TransitionValue → ℕ → Result NodeValue KeepFault → Type 0

@@ -2,6 +2,7 @@
 #![tactic(auto)]
 
 mod best;
+mod found;
 mod known;
 mod laws;
 mod least;

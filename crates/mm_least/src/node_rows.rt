@@ -15,20 +15,23 @@ ghost use Rattle.mm_tree.specs.Nodes.{named_leaf};
 ghost use Rattle.mm_nodes.specs.Demands.{Frame, IsExact, frame};
 ghost use Rattle.mm_nodes.specs.Calls.{CanMakeLeaf, IsOfJoin};
 ghost use Rattle.mm_least.specs.Rows.{shown};
+ghost use Rattle.mm_least.specs.FoundTypes.{IsFound, rows_of};
 ghost use Rattle.mm_least.specs.RowLaws.{ShowSame, asks, leaf_has, join_has, fits, leaf_stays, join_stays};
 ghost use Rattle.mm_least.specs.RowLaws.{same_left, same_right, same_itself};
 ghost use Rattle.mm_least.specs.RowCalls.{IsLeafRows, IsJoinRows, CanBeJoined, MakesRows, IsNodeOf, IsNodeAgain};
 ghost use Rattle.mm_least.specs.RowCalls.{row_types, element_name};
 
+use crate::found::Found;
 use crate::known::known_rows;
+use crate::log::standing;
 use crate::pass::{add_leaf, add_pairs};
 use crate::row::show_same;
-use crate::transition::{Transition, ids_of, places_of};
+use crate::transition::{Transition, ids_of};
 use crate::{LeastFault, Row};
 use mm_base::{Name, Steps};
 use mm_nodes::Keeps;
 use mm_ops::Op;
-use mm_states::{Automaton, TypeId};
+use mm_states::Automaton;
 use mm_tree::Leaf;
 use std::alloc::Global;
 use std::marker::Model;
@@ -117,8 +120,7 @@ impl NodeRows {
             (row_types (frame op.now.f (A.shape automaton.old) (A.lists automaton.old)) right.now)) room result }
     {
         steps.tick();
-        let mut rows = Vec::new(alloc);
-        let mut table = Vec::new(alloc);
+        let mut found = Found::new(alloc);
         let mut rest = room;
         let whole = room + automaton.cells();
         match add_pairs(
@@ -128,11 +130,10 @@ impl NodeRows {
             &left.rows,
             &right.rows,
             whole,
-            &mut rows,
+            &mut found,
             &mut rest,
-            &mut table,
         ) {
-            Ok(()) => joined(alloc, rows, &left.rows, &right.rows, table),
+            Ok(()) => joined(alloc, &left.rows, &right.rows, found),
             Err(fault) => Err(fault),
         }
     }
@@ -272,19 +273,18 @@ fn name_of(leaf: &Leaf) -> Option<Name>
 /// No more pairs of types are kept at a node.
 const MOST_PAIRS: usize = 16384;
 
-/// The node of a join by its rows and the table of the types of all pairs.
-fn joined(
-    alloc: Global,
-    rows: Vec<Row>,
-    left: &[Row],
-    right: &[Row],
-    table: Vec<TypeId>,
-) -> Result<NodeRows, LeastFault>
-    requires { length rows.items < 4294967296 }
-    ensures { IsNodeOf rows.items left.now right.now table.items result }
+/// The node of a join by what was found for its pairs.
+fn joined(alloc: Global, left: &[Row], right: &[Row], found: Found) -> Result<NodeRows, LeastFault>
+    requires found { IsFound found }
+    requires few { length (rows_of found) < 4294967296 }
+    ensures { IsNodeOf (rows_of found) left.now right.now found.ids.items found.table.items result }
 {
+    let rows = match standing(alloc, &found.lasts, &found.log) {
+        Ok(rows) => rows,
+        Err(fault) => return Err(fault),
+    };
     let name = None;
-    if table.len() > MOST_PAIRS {
+    if found.table.len() > MOST_PAIRS {
         let known = None;
         return Ok(NodeRows { name, rows, known });
     }
@@ -296,31 +296,19 @@ fn joined(
         Ok(ids) => ids,
         Err(fault) => return Err(fault),
     };
-    let ids = match ids_of(alloc, &rows) {
-        Ok(ids) => ids,
-        Err(fault) => return Err(fault),
+    let Found { ids, table, .. } = found;
+    let transition = Transition {
+        left,
+        right,
+        ids,
+        table,
     };
-    match places_of(alloc, &ids, &table) {
-        Ok(Some(table)) => {
-            let transition = Transition {
-                left,
-                right,
-                ids,
-                table,
-            };
-            match Rc::new(alloc, transition) {
-                Ok(transition) => {
-                    let known = Some(transition);
-                    Ok(NodeRows { name, rows, known })
-                }
-                Err(_) => Err(LeastFault::NoMemory),
-            }
-        }
-        Ok(None) => {
-            let known = None;
+    match Rc::new(alloc, transition) {
+        Ok(transition) => {
+            let known = Some(transition);
             Ok(NodeRows { name, rows, known })
         }
-        Err(fault) => Err(fault),
+        Err(_) => Err(LeastFault::NoMemory),
     }
 }
 
