@@ -1,12 +1,11 @@
 -- What a walk over the pairs of a join has found.
 use Rattle.std.proofs.Common.{◌≡◌, ◌⊎◌, inl, inr, ◌<◌, ◌≤◌, ◌+◌, ◌-◌, ℕ, zero, suc, nat_eq, Bool, true, false, ◌||◌, if◌then◌else◌, int_lt, List, [], ◌∷◌, ◌++◌, map, length, get_or, Option, Some, None, Result, Ok, Err, refl, sym, ap, ◌∙◌, subst, arith, length-append}
-use Rattle.std.specs.List.{list_any}
 use Rattle.std.specs.Prelude.{OnOk}
 use Rattle.std.proofs.lemmas.List.{map-append, get_or_append_left, get_or-append-add}
 use Rattle.std.proofs.lemmas.List.Folds.{list_any-append}
 use Rattle.mm_logic.specs.Formula.{Formula}
 use Rattle.mm_logic.specs.Value.{Value}
-use Rattle.mm_logic.specs.Occurrence.{same, is_among}
+use Rattle.mm_logic.specs.Occurrence.{is_among}
 use Rattle.mm_logic.proofs.SetLemmas.{or_swap, or_twice}
 use Rattle.mm_states.specs.Lists.{AllFit}
 use Rattle.mm_states.specs.Calls.{Numbers}
@@ -19,7 +18,7 @@ use Rattle.mm_least.specs.Rows.{Puts, AddsRow, put_row}
 use Rattle.mm_least.specs.BestLaws.{Different}
 use Rattle.mm_least.specs.RowLaws.{append_fits}
 use Rattle.mm_least.specs.Transitions.{named, AreIn, ArePlaces, Told}
-use Rattle.mm_least.specs.Logs.{is_at, standing, IsLast, KnowsLast, AreNamed, AreApart, IsLog, Offered}
+use Rattle.mm_least.specs.Logs.{is_at, standing, IsLast, AreNamed, AreApart, IsLog, Offered}
 use Rattle.mm_least.specs.KnownRows.{TellsApart}
 use Rattle.mm_least.specs.FoundTypes.{is_in, has_row, rows_of, names_of, IsPlaceAmong, AreFound, IsFound, IsAdded, IsEntered, Enters, IsPut, PutsFound, PutsNew, AddsFound}
 use Rattle.mm_least.proofs.RowLemmas.{put_none}

@@ -22,7 +22,7 @@ use Rattle.mm_least.specs.declared.row.Row.{Row}
 use Rattle.mm_least.specs.declared.row.Origin.{Origin}
 use Rattle.mm_least.specs.declared.row.Origin.TheVariants.{Out, Pair}
 use Rattle.mm_least.specs.Rows.{put_row, shown}
-use Rattle.mm_least.specs.Candidates.{Candidate, candidate, put_all, types_of, typed, typed_by, held_by, pairs_with, pairs_of}
+use Rattle.mm_least.specs.Candidates.{Candidate, candidate, put_all, typed, typed_by, held_by, pairs_with, pairs_of}
 use Rattle.mm_least.specs.BestLaws.{Different, same_itself, put_all-append}
 use Rattle.mm_least.specs.Transitions.{TransitionValue, ArePlaces, named, IsTransition, IsKnown}
 use Rattle.mm_least.specs.declared.log.Entry.{Entry}

@@ -29,7 +29,7 @@ use Rattle.mm_states.specs.Lists.{AllFit}
 use Rattle.mm_least.specs.declared.row.Row.{Row}
 use Rattle.mm_least.specs.declared.row.Origin.{Origin}
 use Rattle.mm_least.specs.declared.row.Origin.TheVariants.{Out, Taken}
-use Rattle.mm_least.specs.Transitions.{TransitionValue, AreIn, ArePlaces, named, IsTransition, IsKnown, Told, IsTableOf}
+use Rattle.mm_least.specs.Transitions.{TransitionValue, AreIn, ArePlaces, named, IsKnown, Told, IsTableOf}
 use Rattle.mm_least.specs.NodeRowsValue.{NodeValue}
 use Rattle.mm_least.specs.Rows.{shown}
 use Rattle.mm_least.specs.Candidates.{Candidate, candidate, put_all, types_of, held, typed, leaf_candidates, pairs_of}

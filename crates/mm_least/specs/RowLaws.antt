@@ -29,7 +29,7 @@ use Rattle.mm_nodes.specs.KeptTrees.KeptTree.{One, Two}
 use Rattle.mm_nodes.specs.Demands.{Frame, HasTypes, IsWithin}
 use Rattle.mm_least.specs.declared.row.Row.{Row}
 use Rattle.mm_least.specs.declared.row.Origin.{Origin}
-use Rattle.mm_least.specs.Transitions.{TransitionValue, AreIn, ArePlaces, named, IsTransition, IsKnown}
+use Rattle.mm_least.specs.Transitions.{TransitionValue, AreIn, ArePlaces, named, IsKnown}
 use Rattle.mm_least.specs.NodeRowsValue.{NodeValue}
 use Rattle.mm_least.specs.Rows.{shown}
 use Rattle.mm_least.specs.Candidates.{Candidate, candidate, put, put_all, types_of, held, typed, leaf_candidates, pairs_with, pairs_of}

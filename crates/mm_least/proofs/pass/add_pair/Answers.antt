@@ -1,11 +1,11 @@
-use Rattle.std.proofs.Common.{rules, [], ◌∷◌, ◌≡◌, ◌-◌, ◌<◌, ◌+◌, ◌+ℤ◌, sym, ap, ◌∙◌, subst, length, refl, arith, w64, SFits}
+use Rattle.std.proofs.Common.{rules, ◌≡◌, ◌-◌, ◌<◌, ◌+ℤ◌, sym, ap, ◌∙◌, subst, length, refl, arith, w64, SFits}
 use Rattle.std.proofs.lemmas.Int.{ints}
 use Rattle.mm_logic.specs.Formula.{Formula}
 use Rattle.mm_logic.specs.Occurrence.{nodes as parts, list_cells}
 use Rattle.mm_logic.specs.Growth.{root}
 use Rattle.mm_states.specs.Calls.{value_of_join}
 use Rattle.mm_least.specs.Rows.{Puts, AddsRow}
-use Rattle.mm_least.specs.FoundTypes.{PutsFound, AddsFound, names_of, rows_of}
+use Rattle.mm_least.specs.FoundTypes.{rows_of}
 use Rattle.mm_least.proofs.PassLemmas.{added_cells, cells_fit, cells_below, one_passes, known_passes, one_refused, weight_is}
 use Rattle.mm_least.proofs.FoundLemmas.{number_fits, puts_row, adds_row, told_again, told_new, found_again_is, found_new_is}
 use Rattle.mm_least.proofs.pass.add_pair.Goals as goal
