@@ -1,17 +1,16 @@
 -- What is known of joins by operators: where it is found, where it is kept, and where the lists grow.
-use Rattle.std.proofs.Common.{ℕ, zero, suc, ◌+◌, ◌<◌, ◌≡◌, Bool, true, false, not, cond, List, [], ◌∷◌, length, map, Option, Some, None, Ok, Err, refl, sym, ap, subst, ◌∙◌, slice_get, if◌then◌else◌, nat_lt, position, arith}
+use Rattle.std.proofs.Common.{ℕ, zero, suc, ◌+◌, ◌<◌, ◌≡◌, Bool, true, false, not, cond, List, [], ◌∷◌, length, Option, Some, None, Ok, Err, refl, sym, ap, subst, ◌∙◌, slice_get, if◌then◌else◌, nat_lt, position, arith}
 use Rattle.std.specs.Prelude.{OnOk, OnErr, Result}
 use Rattle.std.specs.List.{position_or_len}
 use Rattle.std.specs.Map.{keys_of, values_of}
+use Rattle.std.proofs.lemmas.Bool.{ltb-true}
 use Rattle.std.proofs.lemmas.Option.{slice_get_within}
 use Rattle.indexmap.specs.IndexMap.{insert_entry, set_value_at}
 use Rattle.mm_logic.specs.Formula.{Formula}
-use Rattle.mm_logic.specs.Operator.{Op}
 use Rattle.mm_logic.specs.Value.{Value}
 use Rattle.mm_logic.specs.Growth.{AllBegin}
 use Rattle.mm_ops.specs.OpValue.{OpValue}
 use Rattle.mm_states.specs.Lists.{AllFit}
-use Rattle.mm_nodes.specs.Demands.{Frame}
 use Rattle.mm_nodes.specs.Calls.{IsSketchOf}
 use Rattle.mm_nodes.specs.Sketches.{AreKnown, IsAt, Learns}
 use Rattle.mm_nodes.specs.declared.keeps.Keeps.{Ghosts}
@@ -27,21 +26,23 @@ module _ {K V : Type 0} where
   first_passes : (test : K → Bool) (es : List (K × V)) → position_or_len test (keys_of es) < length (keys_of es)
       → (e : K × V) × (slice_get es (position_or_len test (keys_of es)) ≡ Some e) × (test e.0 ≡ true)
   first_passes test [] l = absurd (omega (arith, l))
-  first_passes test (e ∷ es) l = go (test e.0) refl
+  first_passes test (e ∷ es) l = go (test e.0) refl (first_passes test es)
     where
       at : Bool → ℕ
       at b = cond (not b) (1 + position_or_len test (keys_of es)) 0
 
-      go : (b : Bool) → test e.0 ≡ b → (x : K × V) × (slice_get (e ∷ es) (at (test e.0)) ≡ Some x) × (test x.0 ≡ true)
-      go true q = (e, ap (λ b. slice_get (e ∷ es) (at b)) q, q)
-      go false q =
+      one_more : (n : ℕ) → 1 + n ≡ suc n
+      one_more n = omega arith
+
+      go : (b : Bool) → test e.0 ≡ b
+          → (position_or_len test (keys_of es) < length (keys_of es) → (x : K × V) × (slice_get es (position_or_len test (keys_of es)) ≡ Some x) × (test x.0 ≡ true))
+          → (x : K × V) × (slice_get (e ∷ es) (at (test e.0)) ≡ Some x) × (test x.0 ≡ true)
+      go true q later = (e, ap (λ b. slice_get (e ∷ es) (at b)) q, q)
+      go false q later =
           let place : at (test e.0) ≡ suc (position_or_len test (keys_of es)) = ap at q ∙ one_more (position_or_len test (keys_of es)) in
-          let inside = subst (λ n. n < length (keys_of (e ∷ es))) place l in
-          let rest = first_passes test es (omega (arith, inside)) in
+          let inside : suc (position_or_len test (keys_of es)) < suc (length (keys_of es)) = subst (λ n. n < suc (length (keys_of es))) place l in
+          let rest = later (omega (arith, inside)) in
           (rest.0, ap (slice_get (e ∷ es)) place ∙ rest.1, rest.2)
-        where
-          one_more : (n : ℕ) → 1 + n ≡ suc n
-          one_more n = omega arith
 
   -- the key of an entry that is found
   pub key_found : (test : K → Bool) (es : List (K × V)) (place : ℕ) → position test (keys_of es) ≡ Some place → (e : K × V) × (slice_get es place ≡ Some e) × (test e.0 ≡ true)
@@ -51,7 +52,7 @@ module _ {K V : Type 0} where
       go true q =
           let here : position_or_len test (keys_of es) ≡ place =
           some_same (position_or_len test (keys_of es)) place (sym (ap (λ b. cond b (Some (position_or_len test (keys_of es))) None) q) ∙ h) in
-          let found = first_passes test es (omega (arith, q)) in
+          let found = first_passes test es (ltb-true (position_or_len test (keys_of es)) (length (keys_of es)) q) in
           (found.0, ap (slice_get es) (sym here) ∙ found.1, found.2)
       go false q = let none = sym (ap (λ b. cond b (Some (position_or_len test (keys_of es))) None) q) ∙ h in cc
 
@@ -86,19 +87,20 @@ module _ {K V : Type 0} where
       fits_tried (Ok a) k v old new h p added unchanged = subst (AllFit P) (sym added) (fits_added k v old h p)
       fits_tried (Err e) k v old new h p added unchanged = subst (AllFit P) (sym unchanged) h
 
--- the place of an operator, if it has one
-pub place_is : {N : Type 0} (eq : OpValue → OpValue → Bool) → ((a b : OpValue) → eq a b ≡ true → a ≡ b) → (op : OpValue) (entries : List (OpValue × N)) (place : Option ℕ)
-    → place ≡ position (eq op) (keys_of entries) → IsAt op entries place
-place_is eq same op entries None e = tt
-place_is {N} eq same op entries (Some place) e =
-    let found = key_found (eq op) entries place (sym e) in
-    (found.0.1, found.1 ∙ ap (λ (k : OpValue). Some (k, found.0.1)) (sym (same op found.0.0 found.2)))
+module _ {N : Type 0} where
+  -- the place of an operator, if it has one
+  pub place_is : (eq : OpValue → OpValue → Bool) → ((a b : OpValue) → eq a b ≡ true → a ≡ b) → (op : OpValue) (entries : List (OpValue × N)) (place : Option ℕ) → place ≡ position (eq op) (keys_of entries) → IsAt op entries place
+  place_is eq same op entries None e = tt
+  place_is eq same op entries (Some place) e =
+      let found = key_found (eq op) entries place (sym e) in
+      (found.0.1, found.1 ∙ ap (λ (k : OpValue). Some (k, found.0.1)) (sym (same op found.0.0 found.2)))
 
--- the value of an entry
-pub value_at : {K V : Type 0} (es : List (K × V)) (i : ℕ) (k : K) (n v : V) → slice_get es i ≡ Some (k, n) → slice_get (values_of es) i ≡ Some v → n ≡ v
-value_at [] i k n v p q = cc
-value_at {K} {V} (x ∷ es) zero k n v p q = ap (λ (y : K × V). y.1) (some_same (k, n) x (sym p)) ∙ some_same x.1 v q
-value_at (x ∷ es) (suc i) k n v p q = value_at es i k n v p q
+module _ {K V : Type 0} where
+  -- the value of an entry
+  pub value_at : (es : List (K × V)) (i : ℕ) (k : K) (n v : V) → slice_get es i ≡ Some (k, n) → slice_get (values_of es) i ≡ Some v → n ≡ v
+  value_at [] i k n v p q = cc
+  value_at (x ∷ es) zero k n v p q = ap (λ (y : K × V). y.1) (some_same (k, n) x (sym p)) ∙ some_same x.1 v q
+  value_at (x ∷ es) (suc i) k n v p q = value_at es i k n v p q
 
 -- ---- what is known
 

@@ -10,10 +10,11 @@ use Rattle.mm_nodes.specs.declared.keeps.Keeps.{Ghosts}
 pub record AreKnown {N : Type 0} (K : Ghosts N) (F : Formula) (lists : List (List Value)) (entries : List (OpValue × N)) : Type 0 where
   pub each : AllFit (λ (e : OpValue × N). K.Knows (record { f = e.0.f; F = F; lists = lists }) e.0.op e.1) entries
 
--- the operator is at the place, if there is one
-abbrev pub IsAt : {N : Type 0} → OpValue → List (OpValue × N) → Option ℕ → Type 0
-IsAt {N} op entries (Some place) = (n : N) × (slice_get entries place ≡ Some (op, n))
-IsAt op entries None = Unit {0}
+module _ {N : Type 0} where
+  -- the operator is at the place, if there is one
+  abbrev pub IsAt : OpValue → List (OpValue × N) → Option ℕ → Type 0
+  IsAt op entries (Some place) = (n : N) × (slice_get entries place ≡ Some (op, n))
+  IsAt op entries None = Unit {0}
 
 -- All stays right, where what n knows of joins by the operator is.
 pub record Learns {N : Type 0} (K : Ghosts N) (op : OpValue) (n : N) (olds nows : List (OpValue × N)) : Type 0 where

@@ -330,7 +330,9 @@ fn build_with<N: Keeps, A: Automaton, L: Ledger>(
         },
         Node::Join(_, op, left, right) => {
             match build_with(alloc, automaton, left, sketches, limit, rows, steps) {
-                Ok(first) => match build_with(alloc, automaton, right, sketches, limit, rows, steps) {
+                Ok(first) => match build_with(
+                    alloc, automaton, right, sketches, limit, rows, steps,
+                ) {
                     Ok(second) => join_parts(
                         alloc, automaton, op, first, second, sketches, limit, rows, steps,
                     ),

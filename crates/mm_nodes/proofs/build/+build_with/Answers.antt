@@ -1,8 +1,10 @@
 use Rattle.std.specs.Prelude.{OnOk}
 use Rattle.mm_nodes.specs.Sketches.{AreKnown}
 use Rattle.std.proofs.Common.{rules, ◌<◌, refl, ap, subst, ◌∙◌, arith}
-use Rattle.mm_tree.specs.NamedTree.{nodes}
-use Rattle.mm_tree.specs.Nodes.{named}
+use Rattle.mm_logic.specs.Occurrence.{occurring}
+use Rattle.mm_logic_laws.specs.ValueLaws.{types_by_rules}
+use Rattle.mm_tree.specs.NamedTree.{nodes, shape}
+use Rattle.mm_tree.specs.Nodes.{named, named_leaf}
 use Rattle.mm_logic.proofs.GrowthLemmas.{AllBegin-grown}
 use Rattle.mm_nodes.specs.Calls.{CanWalk}
 use Rattle.mm_nodes.proofs.StandsLemmas.{Laws}
@@ -205,4 +207,5 @@ returns-in-Ok-build_with-2-clause-sketches g t c =
 pub returns-in-Ok-clause-sketches : goal.returns-in-Ok-clause-sketches
 returns-in-Ok-clause-sketches g t c =
     known_later g.N.Keeps (the_laws g) (g.A.Automaton.shape c.args.automaton.now) (g.A.Automaton.lists c.args.automaton.now) (g.A.Automaton.lists c.add_leaf.new.automaton) c.args.sketches.now.kept.entries
-    (AllBegin-grown (g.A.Automaton.lists c.args.automaton.now) (g.A.Automaton.lists c.add_leaf.new.automaton) _ c.in-Ok.ensures.adds.grown) c.requires.sketches
+    (AllBegin-grown (g.A.Automaton.lists c.args.automaton.now) (g.A.Automaton.lists c.add_leaf.new.automaton)
+    (occurring (g.A.Automaton.shape c.args.automaton.now) (types_by_rules c.in-Leaf.leaf.field (g.N.Keeps.query (g.A.Automaton.shape c.args.automaton.now)) (shape (named_leaf c.in-Leaf.leaf)))) c.in-Ok.ensures.adds.grown) c.requires.sketches

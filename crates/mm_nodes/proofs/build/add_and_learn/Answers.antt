@@ -1,5 +1,7 @@
 use Rattle.mm_logic.proofs.GrowthLemmas.{AllBegin-grown}
+use Rattle.mm_logic.specs.Occurrence.{occurring}
 use Rattle.mm_nodes.specs.Demands.{frame}
+use Rattle.mm_nodes.specs.Walks.{pair_types}
 use Rattle.mm_nodes.proofs.StandsLemmas.{Laws}
 use Rattle.mm_nodes.proofs.SketchLemmas.{known_later}
 use Rattle.mm_nodes.proofs.build.add_and_learn.Given as given
@@ -17,5 +19,5 @@ returns-in-Ok-clause-sketches g c =
     let nows = g.A.Automaton.lists c.add_known.new.automaton in
     let op = c.args.op.now in
     c.learn.ensures.right F nows
-    (known_later g.N.Keeps (the_laws g) F olds nows c.args.sketches.now.kept.entries (AllBegin-grown olds nows _ c.in-Ok.ensures.adds.grown) c.requires.sketches)
+    (known_later g.N.Keeps (the_laws g) F olds nows c.args.sketches.now.kept.entries (AllBegin-grown olds nows (occurring F (pair_types g.N.Keeps F olds op c.args.left.now c.args.right.now)) c.in-Ok.ensures.adds.grown) c.requires.sketches)
     (g.met.N.Keeps.knows_join (frame op.f F nows) op.op c.args.left.now c.args.right.now c.in-Ok.entry c.in-Ok.ensures.adds.is)

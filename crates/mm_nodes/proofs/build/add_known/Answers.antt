@@ -1,4 +1,4 @@
-use Rattle.std.proofs.Common.{Some, subst}
+use Rattle.std.proofs.Common.{subst}
 use Rattle.mm_nodes.specs.Sketches.{IsAt}
 use Rattle.mm_nodes.proofs.SketchLemmas.{known_at, place_within}
 use Rattle.mm_nodes.proofs.build.add_known.Goals as goal
