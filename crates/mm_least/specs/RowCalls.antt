@@ -45,6 +45,10 @@ pub record IsJoinRows (fr : Frame) (op : Op) (a b n : NodeValue) : Type 0 where
   pub rows : held fr.F fr.lists n.rows ≡ put_all (pairs_of (join_type fr.f fr.F op) (typed fr.F fr.lists (shown a.rows)) 0 (typed fr.F fr.lists (shown b.rows))) []
   pub known : IsKnown fr op n.known
 
+-- what is known, if anything, is of the operator
+abbrev pub KnowsJoins : Frame → Op → NodeValue → Type 0
+KnowsJoins fr op n = IsKnown fr op n.known
+
 -- the types of rows
 abbrev pub row_types : Frame → NodeValue → List Value
 row_types fr n = types_of (held fr.F fr.lists n.rows)

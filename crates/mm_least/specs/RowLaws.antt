@@ -35,7 +35,7 @@ use Rattle.mm_least.specs.Rows.{shown}
 use Rattle.mm_least.specs.Candidates.{Candidate, candidate, put, put_all, types_of, held, typed, leaf_candidates, pairs_with, pairs_of}
 use Rattle.mm_least.specs.BestLaws.{Different, best-members, best-count}
 use Rattle.mm_least.specs.Passes.{AreWithin, AreOperands, AreLight, most_sum}
-use Rattle.mm_least.specs.RowCalls.{IsLeafRows, IsJoinRows, CanBeJoined, row_types}
+use Rattle.mm_least.specs.RowCalls.{IsLeafRows, IsJoinRows, CanBeJoined, KnowsJoins, row_types}
 
 pub asks : (F : Formula) → asked (Least F) ≡ F
 asks F = refl
@@ -187,6 +187,13 @@ same_right fr op a b c n e h = record {
 
 pub same_itself : (a : NodeValue) → ShowSame a a
 same_itself a = refl
+
+-- what is known of joins
+pub knows_join : (fr : Frame) (op : Op) (a b n : NodeValue) → IsJoinRows fr op a b n → KnowsJoins fr op n
+knows_join fr op a b n h = h.known
+
+pub knows_stays : (fr : Frame) (lists : List (List Value)) (op : Op) (n : NodeValue) → AllBegin fr.lists lists → KnowsJoins fr op n → KnowsJoins (record fr { lists = lists }) op n
+knows_stays fr lists op n g h = known_stays fr lists op n.known g h
 
 -- ---- what can be joined
 

@@ -13,13 +13,13 @@ ghost use Rattle.mm_states.specs.Calls.{IsRoomy};
 ghost use Rattle.mm_tree.specs.NamedTree.{Tree, shape};
 ghost use Rattle.mm_tree.specs.Nodes.{named_leaf};
 ghost use Rattle.mm_nodes.specs.Demands.{Frame, IsExact, frame};
-ghost use Rattle.mm_nodes.specs.Calls.{CanMakeLeaf, IsOfJoin};
+ghost use Rattle.mm_nodes.specs.Calls.{CanMakeLeaf};
 ghost use Rattle.mm_least.specs.Rows.{shown};
 ghost use Rattle.mm_least.specs.FoundTypes.{IsFound, rows_of};
 ghost use Rattle.mm_least.specs.RowLaws.{ShowSame, asks, leaf_has, join_has, fits, leaf_stays, join_stays};
-ghost use Rattle.mm_least.specs.RowLaws.{same_left, same_right, same_itself};
+ghost use Rattle.mm_least.specs.RowLaws.{same_left, same_right, same_itself, knows_join, knows_stays};
 ghost use Rattle.mm_least.specs.RowCalls.{IsLeafRows, IsJoinRows, CanBeJoined, MakesRows, IsNodeOf, IsNodeAgain};
-ghost use Rattle.mm_least.specs.RowCalls.{row_types, element_name};
+ghost use Rattle.mm_least.specs.RowCalls.{KnowsJoins, row_types, element_name};
 
 use crate::found::Found;
 use crate::known::known_rows;
@@ -39,8 +39,7 @@ use std::rc::Rc;
 use std::sync::ledger::Ledger;
 
 /// One row for each type at a node, in the order of the leaf words of their sets; the name of the element of a leaf; and at a join
-/// the types
-/// that its operator made. It is made for a node, with one step, and never copied.
+/// the types that its operator made. It is made for a node, with one step, and never copied; what it knows of its operator may be shared.
 #[derive(Drop)]
 pub struct NodeRows {
     pub(crate) name: Option<Name>,
@@ -138,8 +137,8 @@ impl NodeRows {
         }
     }
 
-    /// The rows of a join, where those of a join by the same operator are known. `Full` exactly where the missing cells and the
-    /// rows exceed the room.
+    /// The rows of a join, by what is known of joins by the same operator. `Full` exactly where the missing cells and the rows exceed
+    /// the room.
     pub fn rejoin<A: Automaton, L: Ledger>(
         alloc: Global,
         automaton: &mut A,
@@ -153,7 +152,7 @@ impl NodeRows {
         requires over { letters.IsOver (A.shape automaton.old) (A.field automaton.old) op.now.f }
         requires left { CanBeJoined (frame op.now.f (A.shape automaton.old) (A.lists automaton.old)) op.now.op.t1 left.now }
         requires right { CanBeJoined (frame op.now.f (A.shape automaton.old) (A.lists automaton.old)) op.now.op.t2 right.now }
-        requires known { IsOfJoin IsJoinRows (frame op.now.f (A.shape automaton.old) (A.lists automaton.old)) op.now.op known.now }
+        requires known { KnowsJoins (frame op.now.f (A.shape automaton.old) (A.lists automaton.old)) op.now.op known.now }
         requires roomy { IsRoomy (A.shape automaton.old) (A.lists automaton.old) room }
         requires exact { IsExact (A.shape automaton.old) (A.lists automaton.old) }
         ensures shape { A.shape automaton.new ≡ A.shape automaton.old }
@@ -193,6 +192,8 @@ impl Keeps for NodeRows {
     ghost IsLeaf = { IsLeafRows };
 
     ghost IsJoin = { IsJoinRows };
+
+    ghost Knows = { KnowsJoins };
 
     ghost Same = { ShowSame };
 
@@ -241,6 +242,20 @@ impl Keeps for NodeRows {
         show_same(&self.rows, &other.rows)
     }
 
+    fn sketch(&self, alloc: Global) -> Option<NodeRows> {
+        let Some(transition) = &self.known else {
+            return None;
+        };
+        match transition.clone() {
+            Ok(transition) => Some(NodeRows {
+                name: None,
+                rows: Vec::new(alloc),
+                known: Some(transition),
+            }),
+            Err(_) => None,
+        }
+    }
+
     ghost asks = { asks };
 
     ghost leaf_has = { leaf_has };
@@ -258,6 +273,10 @@ impl Keeps for NodeRows {
     ghost same_right = { same_right };
 
     ghost same_itself = { same_itself };
+
+    ghost knows_join = { knows_join };
+
+    ghost knows_stays = { knows_stays };
 }
 
 /// The name of the element of a leaf.

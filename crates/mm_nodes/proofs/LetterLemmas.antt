@@ -1,11 +1,11 @@
 -- A leaf of a valid tree can be read.
-use Rattle.std.proofs.Common.{◌≡◌, ◌≤◌, ℕ, List, Option, Some, None, sym, ap, ◌∙◌, subst}
+use Rattle.std.proofs.Common.{◌≡◌, ◌≤◌, ℕ, List, Option, Some, None, sym, subst}
 use Rattle.mm_field.specs.declared.Field.{Field}
 use Rattle.mm_logic.specs.Formula.{Formula}
 use Rattle.mm_logic.specs.Value.{Value}
 use Rattle.mm_states.specs.Letters.{IsLetter, IsVectorOf, leaf_type, type_at_leaf, marks_of}
 use Rattle.mm_states.specs.Letters as letters
-use Rattle.mm_states.specs.Calls.{CanRead, IsRoomy}
+use Rattle.mm_states.specs.Calls.{CanRead}
 use Rattle.mm_states.specs.declared.letter.Letter.{Letter}
 use Rattle.mm_tree.specs.NamedTree.{shape, boundary}
 use Rattle.mm_tree.specs.Nodes.{named_leaf, IsOver}

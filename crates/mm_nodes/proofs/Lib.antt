@@ -3,6 +3,7 @@ pub mod EntryLemmas
 pub mod StandsLemmas
 pub mod BuildLemmas
 pub mod WalkLemmas
+pub mod SketchLemmas
 pub mod NodeLemmas
 pub mod MadeLemmas
 pub mod RemakeLemmas

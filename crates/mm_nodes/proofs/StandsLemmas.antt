@@ -54,6 +54,8 @@ pub record Laws {N : Type 0} (K : Ghosts N) : Type 0 where
   pub same_left : (fr : Frame) (op : Op) (a b c n : N) → K.Same b a → K.IsJoin fr op a c n → K.IsJoin fr op b c n
   pub same_right : (fr : Frame) (op : Op) (a b c n : N) → K.Same c b → K.IsJoin fr op a b n → K.IsJoin fr op a c n
   pub same_itself : (a : N) → K.Same a a
+  pub knows_join : (fr : Frame) (op : Op) (a b n : N) → K.IsJoin fr op a b n → K.Knows fr op n
+  pub knows_stays : (fr : Frame) (lists : List (List Value)) (op : Op) (n : N) → AllBegin fr.lists lists → K.Knows fr op n → K.Knows (record fr { lists = lists }) op n
 
 module _ {N : Type 0} (K : Ghosts N) (laws : Laws K) (fr : Frame) where
   abbrev pub Stands : Tree → KeptTree N → Type 0

@@ -17,7 +17,7 @@ use Rattle.mm_tree.proofs.TreeLemmas.{over_field, valid_left, valid_right}
 use Rattle.mm_nodes.specs.KeptTrees.{KeptTree, top, count, path_in, StandsBeside}
 use Rattle.mm_nodes.specs.KeptTrees.KeptTree.{One, Two}
 use Rattle.mm_nodes.specs.Demands.{Frame, IsExact, made}
-use Rattle.mm_nodes.specs.Calls.{Exceeds, IsOfJoin}
+use Rattle.mm_nodes.specs.Calls.{Exceeds}
 use Rattle.mm_nodes.specs.Walks.{pair_types, path_rows, highest, CanRemake, RemakesPath, Remakes, StepsUp}
 use Rattle.mm_nodes.specs.declared.keeps.Keeps.{Ghosts}
 use Rattle.mm_nodes.specs.declared.keeps.KeepFault.{KeepFault}
@@ -101,14 +101,12 @@ module _ {N : Type 0} (K : Ghosts N) (laws : Laws K) (F : Formula) (node : Node)
         (valid_right op.f n op.op (named l) (named r) m.valid))))
 
     pub left_known : (F1 : Formula) (changed : Bool) (old : N) → F1 ≡ F → old ≡ e
-        → RemakesPath K F olds mids (field_of d) (named d) x new (path_in down x) items limit before middle changed → IsOfJoin K.IsJoin (record { f = op.f; F = F1; lists = mids }) op.op old
+        → RemakesPath K F olds mids (field_of d) (named d) x new (path_in down x) items limit before middle changed → K.Knows (record { f = op.f; F = F1; lists = mids }) op.op old
     left_known F1 changed old s o k =
-        subst (λ (G : Formula). IsOfJoin K.IsJoin (record { f = op.f; F = G; lists = mids }) op.op old) (sym s)
-        (subst (λ (w : N). IsOfJoin K.IsJoin (record { f = op.f; F = F; lists = mids }) op.op w) (sym o) (
-          top a,
-          top b,
-          laws.join_stays (record { f = op.f; F = F; lists = olds }) mids op.op (top a) (top b) e (AllBegin-grown olds mids (occurring F k.grown.0) k.grown.1) left_whole.beside.0,
-        ))
+        subst (λ (G : Formula). K.Knows (record { f = op.f; F = G; lists = mids }) op.op old) (sym s)
+        (subst (λ (w : N). K.Knows (record { f = op.f; F = F; lists = mids }) op.op w) (sym o)
+        (laws.knows_stays (record { f = op.f; F = F; lists = olds }) mids op.op e (AllBegin-grown olds mids (occurring F k.grown.0) k.grown.1)
+        (laws.knows_join (record { f = op.f; F = F; lists = olds }) op.op (top a) (top b) e left_whole.beside.0)))
 
     pub left_remakes : (F1 : Formula) (nows : List (List Value)) (later : List N) (after : ℕ) (sibling old : N) (changed : Bool) (result : Result Bool KeepFault) → F1 ≡ F → sibling ≡ top b → old ≡ e
         → RemakesPath K F olds mids (field_of d) (named d) x new (path_in down x) items limit before middle changed
@@ -197,14 +195,12 @@ module _ {N : Type 0} (K : Ghosts N) (laws : Laws K) (F : Formula) (node : Node)
         (valid_left op.f n op.op (named l) (named r) m.valid))))
 
     pub right_known : (F1 : Formula) (changed : Bool) (old : N) → F1 ≡ F → old ≡ e
-        → RemakesPath K F olds mids (field_of d) (named d) x new (path_in down x) items limit before middle changed → IsOfJoin K.IsJoin (record { f = op.f; F = F1; lists = mids }) op.op old
+        → RemakesPath K F olds mids (field_of d) (named d) x new (path_in down x) items limit before middle changed → K.Knows (record { f = op.f; F = F1; lists = mids }) op.op old
     right_known F1 changed old s o k =
-        subst (λ (G : Formula). IsOfJoin K.IsJoin (record { f = op.f; F = G; lists = mids }) op.op old) (sym s)
-        (subst (λ (w : N). IsOfJoin K.IsJoin (record { f = op.f; F = F; lists = mids }) op.op w) (sym o) (
-          top a,
-          top b,
-          laws.join_stays (record { f = op.f; F = F; lists = olds }) mids op.op (top a) (top b) e (AllBegin-grown olds mids (occurring F k.grown.0) k.grown.1) right_whole.beside.0,
-        ))
+        subst (λ (G : Formula). K.Knows (record { f = op.f; F = G; lists = mids }) op.op old) (sym s)
+        (subst (λ (w : N). K.Knows (record { f = op.f; F = F; lists = mids }) op.op w) (sym o)
+        (laws.knows_stays (record { f = op.f; F = F; lists = olds }) mids op.op e (AllBegin-grown olds mids (occurring F k.grown.0) k.grown.1)
+        (laws.knows_join (record { f = op.f; F = F; lists = olds }) op.op (top a) (top b) e right_whole.beside.0)))
 
     pub right_remakes : (F1 : Formula) (nows : List (List Value)) (later : List N) (after : ℕ) (sibling old : N) (changed : Bool) (result : Result Bool KeepFault) → F1 ≡ F → sibling ≡ top a → old ≡ e
         → RemakesPath K F olds mids (field_of d) (named d) x new (path_in down x) items limit before middle changed

@@ -1,5 +1,5 @@
 -- What a call that makes an entry needs, and what it answers.
-use Rattle.std.specs.Prelude.{◌≡◌, ◌<◌, ◌≤◌, ℕ, ◌+◌, List, length, Result, Ok, Err}
+use Rattle.std.specs.Prelude.{◌≡◌, ◌<◌, ◌≤◌, ℕ, ◌+◌, List, length, Option, Some, None, Result, Ok, Err}
 use Rattle.mm_field.specs.declared.Field.{Field}
 use Rattle.mm_logic.specs.Operator.{Op}
 use Rattle.mm_logic.specs.Formula.{Formula}
@@ -45,9 +45,10 @@ pub record CanWalk (F : Formula) (g : Field) (lists : List (List Value)) (limit 
   pub cells : list_cells (nodes F) lists ≤ limit
   pub limited : limit ≤ MAX_LIMIT
 
--- the entry of a join by op of some two entries
-abbrev pub IsOfJoin : {N : Type 0} → (Frame → Op → N → N → N → Type 0) → Frame → Op → N → Type 0
-IsOfJoin {N} IsJoin fr op n = (a : N) × (b : N) × IsJoin fr op a b n
+-- A sketch of n, if any: it knows what is right wherever n does.
+abbrev pub IsSketchOf : {N : Type 0} → (Frame → Op → N → Type 0) → N → Option N → Type 0
+IsSketchOf Knows n (Some sketch) = (fr : Frame) (op : Op) → Knows fr op n → Knows fr op sketch
+IsSketchOf Knows n None = Unit {0}
 
 -- Whatever list of types has those of the root and vs: its cells and so many rows exceed the limit.
 abbrev pub Exceeds : Formula → List (List Value) → List Value → (rows limit : ℕ) → Type 0

@@ -2,6 +2,7 @@ pub mod KeptTrees
 pub mod KeptNodes
 pub mod Demands
 pub mod Calls
+pub mod Sketches
 pub mod LeafLetters
 pub mod Walks
 pub mod Changes

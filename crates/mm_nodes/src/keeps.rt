@@ -15,7 +15,7 @@ ghost use Rattle.mm_tree.specs.Nodes.{named_leaf};
 ghost use Rattle.mm_tree.specs.ValidTree.{IsValidTree};
 ghost use Rattle.mm_nodes.specs.KeptTrees.{KeptTree, StandsFor, top};
 ghost use Rattle.mm_nodes.specs.Demands.{Frame, HasTypes, IsExact, frame};
-ghost use Rattle.mm_nodes.specs.Calls.{CanMakeLeaf, Makes, IsOfJoin};
+ghost use Rattle.mm_nodes.specs.Calls.{CanMakeLeaf, Makes, IsSketchOf};
 
 use mm_base::Steps;
 use mm_ops::Op;
@@ -49,6 +49,9 @@ pub trait Keeps: Drop {
 
     /// The entry is that of a join, by an operator, of what two children keep.
     ghost IsJoin: { Frame → Op → Self → Self → Self → Type 0 };
+
+    /// What an entry knows of joins by an operator is right.
+    ghost Knows: { Frame → Op → Self → Type 0 };
 
     /// What a parent makes of two entries does not tell them apart.
     ghost Same: { Self → Self → Type 0 };
@@ -103,7 +106,7 @@ pub trait Keeps: Drop {
             (types (frame op.now.f (A.shape automaton.old) (A.lists automaton.old)) left.now)
             (types (frame op.now.f (A.shape automaton.old) (A.lists automaton.old)) right.now)) room result };
 
-    /// The entry of a join, with one step, where an entry of a join by the same operator is known.
+    /// The entry of a join, with one step, where something may be known of joins by the same operator.
     fn rejoin<A: Automaton, L: Ledger>(
         alloc: Global,
         automaton: &mut A,
@@ -119,7 +122,7 @@ pub trait Keeps: Drop {
         requires over { letters.IsOver (A.shape automaton.old) (A.field automaton.old) op.now.f }
         requires left { Fits (frame op.now.f (A.shape automaton.old) (A.lists automaton.old)) op.now.op.t1 left.now }
         requires right { Fits (frame op.now.f (A.shape automaton.old) (A.lists automaton.old)) op.now.op.t2 right.now }
-        requires known { IsOfJoin IsJoin (frame op.now.f (A.shape automaton.old) (A.lists automaton.old)) op.now.op known.now }
+        requires known { Knows (frame op.now.f (A.shape automaton.old) (A.lists automaton.old)) op.now.op known.now }
         requires roomy { IsRoomy (A.shape automaton.old) (A.lists automaton.old) room }
         requires exact { IsExact (A.shape automaton.old) (A.lists automaton.old) }
         ensures shape { A.shape automaton.new ≡ A.shape automaton.old }
@@ -139,6 +142,12 @@ pub trait Keeps: Drop {
     /// Whether what a parent makes of two entries is the same.
     fn looks_same(&self, other: &Self) -> bool
         ensures { result ≡ true → Same self.now other.now };
+
+    /// What this entry knows of joins and nothing else, if it knows anything. It is no entry of a node, and makes no step.
+    fn sketch(&self, alloc: Global) -> Option<Self>
+    where
+        Self: Sized,
+        ensures { IsSketchOf Knows self.now result };
 
     /// The formula is the one that is asked of.
     ghost asks: { (F : Formula) → asked (query F) ≡ F };
@@ -168,4 +177,11 @@ pub trait Keeps: Drop {
     ghost same_right: { (fr : Frame) (op : Op) (a b c n : Self) → Same c b → IsJoin fr op a b n → IsJoin fr op a c n };
 
     ghost same_itself: { (a : Self) → Same a a };
+
+    /// The entry of a join knows what is right of joins by its operator.
+    ghost knows_join: { (fr : Frame) (op : Op) (a b n : Self) → IsJoin fr op a b n → Knows fr op n };
+
+    /// What is known stays right where the lists grow.
+    ghost knows_stays: { (fr : Frame) (lists : List (List Value)) (op : Op) (n : Self) → AllBegin fr.lists lists → Knows fr op n →
+        Knows (record fr { lists = lists }) op n };
 }

@@ -9,6 +9,7 @@ mod kept;
 mod letters;
 mod redo_tree;
 mod remake;
+mod sketches;
 
 pub use keeps::{KeepFault, Keeps};
 pub use kept::Kept;

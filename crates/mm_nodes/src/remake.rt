@@ -8,7 +8,7 @@ ghost use Rattle.mm_nodes.specs.declared.TheConstants.{MAX_LIMIT, MOST_ROWS};
 ghost use Rattle.mm_nodes.specs.Demands.{IsExact, frame};
 ghost use Rattle.mm_nodes.specs.KeptTrees.{top, count, path_in, rows_beside, row_sum};
 ghost use Rattle.mm_nodes.specs.KeptNodes.{tree_of, IsCounted};
-ghost use Rattle.mm_nodes.specs.Calls.{CanWalk, IsOfJoin};
+ghost use Rattle.mm_nodes.specs.Calls.{CanWalk};
 ghost use Rattle.mm_nodes.specs.Walks.{highest, CanRemake, Remakes, Renews, StepsUp};
 
 use crate::build::add_rejoin;
@@ -83,7 +83,7 @@ fn step_from_left<N: Keeps, A: Automaton, L: Ledger>(
     requires left { changed ≡ true → N.Fits (frame op.now.f (A.shape automaton.old) (A.lists automaton.old)) op.now.op.t1
         (highest made.old.items (top (tree_of new.now))) }
     requires right { changed ≡ true → N.Fits (frame op.now.f (A.shape automaton.old) (A.lists automaton.old)) op.now.op.t2 sibling.now }
-    requires known { IsOfJoin N.IsJoin (frame op.now.f (A.shape automaton.old) (A.lists automaton.old)) op.now.op old.now }
+    requires known { N.Knows (frame op.now.f (A.shape automaton.old) (A.lists automaton.old)) op.now.op old.now }
     requires exact { IsExact (A.shape automaton.old) (A.lists automaton.old) }
     requires cells { list_cells (parts (A.shape automaton.old)) (A.lists automaton.old) ≤ limit }
     requires limited { limit ≤ MAX_LIMIT }
@@ -135,7 +135,7 @@ fn step_from_right<N: Keeps, A: Automaton, L: Ledger>(
     requires left { changed ≡ true → N.Fits (frame op.now.f (A.shape automaton.old) (A.lists automaton.old)) op.now.op.t1 sibling.now }
     requires right { changed ≡ true → N.Fits (frame op.now.f (A.shape automaton.old) (A.lists automaton.old)) op.now.op.t2
         (highest made.old.items (top (tree_of new.now))) }
-    requires known { IsOfJoin N.IsJoin (frame op.now.f (A.shape automaton.old) (A.lists automaton.old)) op.now.op old.now }
+    requires known { N.Knows (frame op.now.f (A.shape automaton.old) (A.lists automaton.old)) op.now.op old.now }
     requires exact { IsExact (A.shape automaton.old) (A.lists automaton.old) }
     requires cells { list_cells (parts (A.shape automaton.old)) (A.lists automaton.old) ≤ limit }
     requires limited { limit ≤ MAX_LIMIT }

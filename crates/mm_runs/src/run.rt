@@ -116,6 +116,8 @@ impl Keeps for NodeRun {
 
     ghost IsJoin = { IsJoinRun };
 
+    ghost Knows = { λ fr op id. Unit {0} };
+
     ghost Same = { λ i j. i ≡ j };
 
     ghost Fits = { λ fr t id. IsOperand fr.F fr.f t fr.lists id };
@@ -163,6 +165,10 @@ impl Keeps for NodeRun {
         self.id == other.id
     }
 
+    fn sketch(&self, _alloc: Global) -> Option<NodeRun> {
+        None
+    }
+
     ghost asks = { asks };
 
     ghost leaf_has = { leaf_has };
@@ -180,4 +186,8 @@ impl Keeps for NodeRun {
     ghost same_right = { same_right };
 
     ghost same_itself = { λ i. refl };
+
+    ghost knows_join = { λ fr op i j id h. tt };
+
+    ghost knows_stays = { λ fr lists op id g h. tt };
 }

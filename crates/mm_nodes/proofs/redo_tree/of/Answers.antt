@@ -22,7 +22,7 @@ use Rattle.mm_nodes.proofs.redo_tree.of.Goals as goal
 the_laws : (g : given.Over) → Laws g.N.Keeps
 the_laws g =
     let k = g.met.N.Keeps in
-    record { asks = k.asks; leaf_has = k.leaf_has; join_has = k.join_has; fits = k.fits; leaf_stays = k.leaf_stays; join_stays = k.join_stays; same_left = k.same_left; same_right = k.same_right; same_itself = k.same_itself }
+    record { asks = k.asks; leaf_has = k.leaf_has; join_has = k.join_has; fits = k.fits; leaf_stays = k.leaf_stays; join_stays = k.join_stays; same_left = k.same_left; same_right = k.same_right; same_itself = k.same_itself; knows_join = k.knows_join; knows_stays = k.knows_stays }
 
 pub build-requires-clause-can : goal.build-requires-clause-can
 build-requires-clause-can g c =

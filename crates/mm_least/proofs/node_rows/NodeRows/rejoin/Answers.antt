@@ -17,7 +17,7 @@ known_rows-requires-clause-sized g c =
     let op = c.args.op.now in
     let T = c.in-Some.transition.value in
     let there : c.args.known.now.known ≡ Some c.in-Some.transition.value = search rules in
-    let h : IsTransition (frame op.f F lists) op.op T = subst (IsKnown (frame op.f F lists) op.op) there c.requires.known.2.known in
+    let h : IsTransition (frame op.f F lists) op.op T = subst (IsKnown (frame op.f F lists) op.op) there c.requires.known in
     subst (λ (t : TransitionValue). length t.table ≡ length t.left * length t.right) (sym c.deref-3.ensures) (known_sized (frame op.f F lists) op.op T h)
 
 pub known_rows-requires-clause-apart : goal.known_rows-requires-clause-apart
@@ -27,7 +27,7 @@ known_rows-requires-clause-apart g c =
     let op = c.args.op.now in
     let T = c.in-Some.transition.value in
     let there : c.args.known.now.known ≡ Some c.in-Some.transition.value = search rules in
-    let h : IsTransition (frame op.f F lists) op.op T = subst (IsKnown (frame op.f F lists) op.op) there c.requires.known.2.known in
+    let h : IsTransition (frame op.f F lists) op.op T = subst (IsKnown (frame op.f F lists) op.op) there c.requires.known in
     subst (λ (t : TransitionValue). AreApart t.ids) (sym c.deref-3.ensures) (known_apart (type_at F lists) T.ids h.different)
 
 pub returns-in-Ok-Some-clause-makes : goal.returns-in-Ok-Some-clause-makes
@@ -37,7 +37,7 @@ returns-in-Ok-Some-clause-makes g c =
     let op = c.args.op.now in
     let T = c.in-Some.transition.value in
     let there : c.args.known.now.known ≡ Some c.in-Some.transition.value = search rules in
-    let h : IsTransition (frame op.f F lists) op.op T = subst (IsKnown (frame op.f F lists) op.op) there c.requires.known.2.known in
+    let h : IsTransition (frame op.f F lists) op.op T = subst (IsKnown (frame op.f F lists) op.op) there c.requires.known in
     let left = c.args.left.now in
     let right = c.args.right.now in
     let rows = c.in-Ok-Some.rows in
