@@ -11,7 +11,7 @@ ghost use Rattle.mm_states.specs.Letters.{IsLetter, leaf_type, marks_of};
 ghost use Rattle.mm_states.specs.Calls.{Answers};
 ghost use Rattle.mm_base_auto.specs.Atoms.{shown};
 ghost use Rattle.mm_base_auto.specs.Terms.{term_of, slots_of};
-ghost use Rattle.mm_base_auto.specs.Spaces.{ind_value, ind_values, IsSpaceOver, prop_spaces};
+ghost use Rattle.mm_base_auto.specs.Spaces.{ind_value, ind_values, CanJoinSpaces, IsSpaceOver, prop_spaces};
 
 use crate::marks::has_mark;
 use crate::space::{IndValue, joined, span_value, zero_value};
@@ -44,8 +44,8 @@ pub struct IndAuto {
     whole: bool,
     slots: SmallVec<u8, 16>,
     values: MarkedTable<IndValue>,
-    /// Room to join in.
-    rows: JoinRows,
+    /// Room to join in, from the first join on; apart, since an automaton is handed on by value.
+    rows: Option<Box<JoinRows>>,
     ghost small: { All (λ s. s < 16) slots.items },
     ghost over: { All (IsSpaceOver field) values.table } by { prop_spaces field values.table },
 }
@@ -82,7 +82,7 @@ impl IndAuto {
             whole,
             slots,
             values: MarkedTable::new(alloc),
-            rows: JoinRows::new(),
+            rows: None,
         }
     }
 
@@ -153,6 +153,28 @@ impl IndAuto {
     }
 }
 
+// The value at a join, worked out in rows that are made where there are none.
+fn joined_in(
+    alloc: Global,
+    op: &Op,
+    left: &IndValue,
+    right: &IndValue,
+    rows: &mut Option<Box<JoinRows>>,
+) -> Result<IndValue, NoMemory>
+    requires left { CanJoinSpaces op.now.f op.now.op.t1 left.now }
+    requires right { CanJoinSpaces op.now.f op.now.op.t2 right.now }
+    ensures over { IfOk result (λ v. IsSpaceOver op.now.f v) }
+    ensures value { IfOk result (λ v. ind_value v ≡ ind_join op.now.f op.now.op (ind_value left.now) (ind_value right.now)) }
+{
+    if rows.is_none() {
+        *rows = Some(Box::new(alloc, JoinRows::new())?);
+    }
+    match rows {
+        Some(rows) => Ok(joined(op, left, right, rows)),
+        None => Err(NoMemory),
+    }
+}
+
 impl Automaton for IndAuto {
     ghost use Rattle.std.specs.Prelude.{[], ◌∷◌, take};
     ghost use Rattle.mm_logic.specs.Formula.Formula.{Ind};
@@ -182,7 +204,7 @@ impl Automaton for IndAuto {
     ) -> Result<TypeId, AutoFault> {
         let left_value = *self.values.get(left);
         let right_value = *self.values.get(right);
-        let value = joined(op, &left_value, &right_value, &mut self.rows);
+        let value = joined_in(alloc, op, &left_value, &right_value, &mut self.rows)?;
         self.put(alloc, &value, room)
     }
 

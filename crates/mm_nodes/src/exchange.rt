@@ -64,29 +64,29 @@ impl<N: Keeps> Above<N> {
     }
 }
 
-/// Puts a part at number `at`, which is `depth` steps below, and the entries that were made above it; gives the sums over all nodes. No
-/// memory.
+/// Exchanges the part at number `at`, which is `depth` steps below, for a new one, and puts the entries that were made above it; gives the
+/// sums over all nodes. No memory. The new part goes by reference: the walk is as deep as the tree, and a step takes little of the stack.
 pub(crate) fn exchange<N: Keeps>(
     kept: &mut Kept<N>,
     at: u32,
     depth: u32,
-    new: Kept<N>,
+    new: &mut Kept<N>,
     made: &mut Vec<N>,
 ) -> Sums
     requires counted { IsCounted N.rows kept.old }
-    requires new { IsCounted N.rows new }
+    requires new { IsCounted N.rows new.old }
     requires within { at < count (tree_of kept.old) }
     requires deep { depth ≡ length (path_in at (tree_of kept.old)) }
     requires few { length made.old.items ≤ depth }
-    requires nodes { count (remade (path_in at (tree_of kept.old)) (tree_of kept.old) (tree_of new) made.old.items) < 100000 }
-    requires rows { row_sum N.rows (remade (path_in at (tree_of kept.old)) (tree_of kept.old) (tree_of new) made.old.items) < 2 ^ 63 }
+    requires nodes { count (remade (path_in at (tree_of kept.old)) (tree_of kept.old) (tree_of new.old) made.old.items) < 100000 }
+    requires rows { row_sum N.rows (remade (path_in at (tree_of kept.old)) (tree_of kept.old) (tree_of new.old) made.old.items) < 2 ^ 63 }
     ensures counted { IsCounted N.rows kept.new }
-    ensures tree { tree_of kept.new ≡ remade (path_in at (tree_of kept.old)) (tree_of kept.old) (tree_of new) made.old.items }
+    ensures tree { tree_of kept.new ≡ remade (path_in at (tree_of kept.old)) (tree_of kept.old) (tree_of new.old) made.old.items }
     ensures sums { (result.nodes ≡ count (tree_of kept.new)) × (result.rows ≡ row_sum N.rows (tree_of kept.new)) }
 {
     if at == 0 {
         let sums = new.sums();
-        *kept = new;
+        std::mem::swap(kept, new);
         return sums;
     }
     match kept {

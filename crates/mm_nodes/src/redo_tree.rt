@@ -123,6 +123,12 @@ fn put<N: Keeps>(kept: &mut Kept<N>, place: &Place, change: Change<N>)
     ensures tree { tree_of kept.new ≡ remade (path_in place.now.number (tree_of kept.old)) (tree_of kept.old)
         (tree_of change.part) change.made.items }
 {
-    let Change { part, mut made } = change;
-    exchange(kept, place.number(), place.depth(), part, &mut made);
+    let Change { mut part, mut made } = change;
+    exchange(
+        kept,
+        place.number(),
+        place.depth(),
+        &mut part,
+        &mut made,
+    );
 }

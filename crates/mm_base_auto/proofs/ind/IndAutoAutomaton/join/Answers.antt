@@ -8,8 +8,8 @@ use Rattle.mm_base_auto.specs.Spaces.{ind_values, IsSpaceOver}
 use Rattle.mm_base_auto.proofs.SpaceTableLemmas.{space_room, space_type, can_join}
 use Rattle.mm_base_auto.proofs.ind.IndAutoAutomaton.join.Goals as goal
 
-pub joined-value-requires-clause-left : goal.joined-value-requires-clause-left
-joined-value-requires-clause-left c =
+pub joined_in-requires-clause-left : goal.joined_in-requires-clause-left
+joined_in-requires-clause-left c =
     let a = c.args.self.now in
     let vs = a.values.table in
     let at = c.get.ensures in
@@ -17,8 +17,8 @@ joined-value-requires-clause-left c =
     can_join a.field c.args.op.now.f c.args.op.now.op.t1 vs c.args.left v (c.requires.field refl) a.over at
     (subst (IsSpaceOf c.args.op.now.f c.args.op.now.op.t1) (sym (space_type vs c.args.left v c.requires.left_operand.within at)) c.requires.left_operand.value)
 
-pub joined-value-requires-clause-right : goal.joined-value-requires-clause-right
-joined-value-requires-clause-right c =
+pub joined_in-requires-clause-right : goal.joined_in-requires-clause-right
+joined_in-requires-clause-right c =
     let a = c.args.self.now in
     let vs = a.values.table in
     let at = c.get-2.ensures in
@@ -32,7 +32,7 @@ put-requires-clause-room c =
     space_room (Ind (term_of a.whole a.slots.items)) tt a.values.table c.args.room c.requires.roomy
 
 pub put-requires-clause-over : goal.put-requires-clause-over
-put-requires-clause-over c = subst (λ f. IsSpaceOver f c.joined-value.result) (sym (c.requires.field refl)) c.joined-value.ensures.over
+put-requires-clause-over c = subst (λ f. IsSpaceOver f c.in_ok-value.value) (sym (c.requires.field refl)) c.in_ok-value.ensures.over
 
 pub returns-clause-answer : goal.returns-clause-answer
 returns-clause-answer c =
@@ -42,5 +42,5 @@ returns-clause-answer c =
     let left = space_type vs c.args.left c.get.result.now c.requires.left_operand.within c.get.ensures in
     let right = space_type vs c.args.right c.get-2.result.now c.requires.right_operand.within c.get-2.ensures in
     subst (λ v. Answers F v (ind_values vs ∷ []) (ind_values c.put.new.self.values.table ∷ []) c.args.room c.put.result)
-    (c.joined-value.ensures.value ∙ (λ i. ind_join c.args.op.now.f c.args.op.now.op (left i) (right i)))
+    (c.in_ok-value.ensures.value ∙ (λ i. ind_join c.args.op.now.f c.args.op.now.op (left i) (right i)))
     c.put.ensures.answer
