@@ -1,0 +1,10 @@
+mod NameLemmas
+mod RankLemmas
+mod SubsetLemmas
+mod SlotLemmas
+mod AssignmentLemmas
+mod HoldsLemmas
+pub mod MinorLemmas
+pub mod ScopeLemmas
+mod BuildLemmas
+mod Examples

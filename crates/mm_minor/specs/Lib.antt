@@ -1,0 +1,2 @@
+pub mod MinorFormula
+pub mod Minors
