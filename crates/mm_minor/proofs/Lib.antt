@@ -7,4 +7,6 @@ mod HoldsLemmas
 pub mod MinorLemmas
 pub mod ScopeLemmas
 mod BuildLemmas
+mod FamilyLemmas
+pub mod ContractionLemmas
 mod Examples
