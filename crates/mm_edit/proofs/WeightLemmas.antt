@@ -111,12 +111,6 @@ shape_stays name weight (Elem n vec old) = either_leaf (bytes_eq name n) n vec w
 shape_stays name weight (Void n t) = refl
 shape_stays name weight (Join n op left right) = ap₂ (λ (a b : shapes.Tree). shapes.Tree.Join op a b) (shape_stays name weight left) (shape_stays name weight right)
 
-pub elements_stay : (name : List ℕ) (weight : ℤ) (tree : Tree) → element_names (with_weight name weight tree) ≡ element_names tree
-unfolding element_names with_weight
-elements_stay name weight (Elem n vec old) = either_leaf (bytes_eq name n) n vec weight old element_names refl
-elements_stay name weight (Void n t) = refl
-elements_stay name weight (Join n op left right) = ap₂ (λ (a b : List (List ℕ)). a ++ b) (elements_stay name weight left) (elements_stay name weight right)
-
 pub ways_stay : (name : List ℕ) (weight : ℤ) (tree : Tree) → path_to name (with_weight name weight tree) ≡ path_to name tree
 unfolding path_to with_weight
 ways_stay name weight (Elem n vec old) = either_leaf (bytes_eq name n) n vec weight old (path_to name) refl

@@ -1,12 +1,12 @@
 //! A tree, what is asked of it, and its edits.
 
-ghost use Rattle.std.specs.Prelude.{◌≡◌, ◌≤◌, ◌<◌, ◌+◌, ℕ, [], nat_abs, OnOk, OnErr, IfOk, IfErr, Ok, Err, IsTrue, true, None};
+ghost use Rattle.std.specs.Prelude.{◌≡◌, ◌≤◌, ◌<◌, ◌+◌, ℕ, [], nat_abs, OnOk, OnErr, IfOk, IfErr, Ok, Err, None};
 ghost use Rattle.mm_base.specs.Causes.{counted};
 ghost use Rattle.mm_logic.specs.Growth.{no_values};
 ghost use Rattle.mm_logic.specs.Occurrence.{cells};
 ghost use Rattle.mm_logic.specs.StateSize.{asked};
 ghost use Rattle.mm_states.specs.Letters as letters;
-ghost use Rattle.mm_tree.specs.NamedTree.{nodes, element_names, is_one_of};
+ghost use Rattle.mm_tree.specs.NamedTree.{nodes};
 ghost use Rattle.mm_tree.specs.Paths.{node_at, with_node, with_weight};
 ghost use Rattle.mm_tree.specs.Replacing.{replace_fault};
 ghost use Rattle.mm_tree.specs.Places.{IsPlaceOf, path_of};
@@ -152,14 +152,13 @@ fn put_back(tree: &mut Tree, place: &Place, old: Tree, kept: &Result<(), KeepFau
 
 /// Gives an element the weight before where an edit was refused.
 fn put_weight_back(tree: &mut Tree, name: &Name, before: i64, kept: &Result<(), KeepFault>)
-    requires element { is_one_of name.now (element_names tree.old.tree) ≡ true }
-    requires light { nat_abs before ≤ most_weight }
+    requires { nat_abs before ≤ most_weight }
     ensures ok { OnOk kept.now (tree.new ≡ tree.old) }
     ensures field { tree.new.f ≡ tree.old.f }
     ensures err { OnErr kept.now (tree.new.tree ≡ with_weight name.now before tree.old.tree) }
 {
     if kept.is_err() {
-        tree.set_weight(name, before);
+        tree.exchange_weight(name, before);
     }
 }
 
@@ -281,31 +280,10 @@ impl<A: Automaton> Session<A> {
         ensures decided { IsDecided self.old.query →
             (result ≡ answer_of (reweighted name.now weight self.old.tree.tree)) × (steps.new ≡ steps.old) }
     {
-        if !self.tree.has_element(name) {
-            return Err(EditFault::UnknownName(*name));
-        }
-        self.reweigh(alloc, name, weight, steps)
-    }
-
-    /// Gives an element another weight.
-    fn reweigh<L: Ledger>(
-        &mut self,
-        alloc: Global,
-        name: &Name,
-        weight: i64,
-        steps: &mut Steps<L>,
-    ) -> Result<(), EditFault>
-        requires light { nat_abs weight ≤ most_weight }
-        requires element { is_one_of name.now (element_names self.old.tree.tree) ≡ true }
-        ensures edits { Edits self.old self.new (reweighted name.now weight self.old.tree.tree) result }
-        ensures ticks { steps.new ≤ steps.old + most_steps self.old (reweighted name.now weight self.old.tree.tree) }
-        ensures fits { result ≡ Err fault.States → ⊥ }
-        ensures kept { (kept_types self.new ≡ kept_types self.old) × (self.new.rebuilds ≡ self.old.rebuilds) }
-        ensures decided { IsDecided self.old.query → (result ≡ Ok tt) × (steps.new ≡ steps.old) }
-    {
         trees_are_valid(&self.tree);
-        let before = self.tree.weight_of(name);
-        self.tree.set_weight(name, weight);
+        let Some(before) = self.tree.exchange_weight(name, weight) else {
+            return Err(EditFault::UnknownName(*name));
+        };
         let result = self.states.reweigh(alloc, &self.tree, name, steps);
         put_weight_back(&mut self.tree, name, before, &result);
         edited(result)

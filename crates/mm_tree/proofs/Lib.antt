@@ -1,6 +1,7 @@
 pub mod Walks
 pub mod TextLemmas
 pub mod NameLemmas
+pub mod PartLemmas
 pub mod PathLemmas
 pub mod StepLemmas
 pub mod PlaceLemmas

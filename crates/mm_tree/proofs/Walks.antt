@@ -1,5 +1,5 @@
 -- What is read off the nodes of a tree.
-use Rattle.std.proofs.Common.{ℕ, ◌≡◌, ◌||◌, ◌&&◌, List, [], ◌∷◌, refl, ap, ◌∙◌, Option, Some, None, if◌then◌else◌, Box, Global}
+use Rattle.std.proofs.Common.{ℕ, ◌≡◌, ◌||◌, ◌&&◌, Bool, true, false, List, [], ◌∷◌, refl, ap, ◌∙◌, Option, Some, None, if◌then◌else◌, Box, Global}
 use Rattle.std.specs.Option.{is_some}
 use Rattle.std.specs.Str.{bytes_eq}
 use Rattle.std.proofs.lemmas.List.Folds.{list_any-append}
@@ -79,6 +79,18 @@ element_weight name l item e =
 pub no_weight : (name : List ℕ) (l : leaves.Leaf) → l.item ≡ None → weight_named name (named_leaf l) ≡ None
 unfolding weight_named
 no_weight name l e = ap (λ (i : Option Item). weight_named name (named_leaf (record l { item = i }))) e
+
+pub own_weight : (name : List ℕ) (l : leaves.Leaf) (item : Item) → l.item ≡ Some item → bytes_eq name l.name ≡ true →
+    weight_named name (named_leaf l) ≡ Some item.weight
+own_weight name l item e same = element_weight name l item e ∙ ap (λ (b : Bool). if b then Some item.weight else None) same
+
+pub other_weight : (name : List ℕ) (l : leaves.Leaf) → bytes_eq name l.name ≡ false → weight_named name (named_leaf l) ≡ None
+unfolding weight_named
+other_weight name l e = go l.item
+  where
+    go : (item : Option Item) → weight_named name (named_leaf (record l { item = item })) ≡ None
+    go None = refl
+    go (Some item) = ap (λ (b : Bool). if b then Some item.weight else None) e
 
 -- ---- a node as a leaf or a join
 

@@ -8,9 +8,11 @@ ghost use Rattle.mm_base.specs.contracts.name.NamePartialEq.TheImpl.{eq-value};
 ghost use Rattle.mm_tree.specs.NamedTree.{leaf_names, nodes};
 ghost use Rattle.mm_tree.specs.Nodes.{named};
 ghost use Rattle.mm_tree.specs.declared.replace.ReplaceFault.TheVariants.{NoMemory as no_memory};
+ghost use Rattle.mm_tree.specs.Replacing.{is_leaf_of};
 ghost use Rattle.mm_tree.specs.OutsideLeaves.{IsSeen, IsOneLess, first_place, with_leaf};
 
 use crate::Node;
+use crate::walk::has_leaf;
 use indexmap::IndexSet;
 use mm_base::{Name, NoMemory};
 use thiserror::Error;
@@ -129,6 +131,17 @@ fn one_less(at: Option<u32>) -> Option<u32>
     match at {
         Some(k) => Some(k - 1),
         None => None,
+    }
+}
+
+/// Whether a node is a leaf with the name of a leaf below another one.
+#[tactic(auto, unfolding(crate::specs::Nodes::named), using(crate::proofs::PartLemmas::leaf_below))]
+pub(crate) fn is_leaf_of(new: &Node, old: &Node) -> bool
+    ensures { result ≡ is_leaf_of (named new.now) (named old.now) }
+{
+    match new {
+        Node::Leaf(leaf) => has_leaf(old, &leaf.name),
+        Node::Join(_, _, _, _) => false,
     }
 }
 

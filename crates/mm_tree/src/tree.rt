@@ -2,11 +2,12 @@
 
 ghost use Rattle.std.specs.Prelude.{◌≡◌, ◌≤◌, ◌+◌, ℕ, nat_abs, Some, None, IfSome, IfOk, IsTrue};
 ghost use Rattle.std.specs.List.{IsDistinct};
+ghost use Rattle.std.specs.Option.{is_some};
 ghost use Rattle.std.specs.Str.{bytes_eq};
 ghost use Rattle.mm_tree.specs.NamedTree.{boundary, depth, nodes, leaf_names, element_names, is_one_of};
 ghost use Rattle.mm_tree.specs.Nodes.{named, IsOver};
 ghost use Rattle.mm_tree.specs.Places.{IsPlaceOf, path_above, path_of, place_at_end};
-ghost use Rattle.mm_tree.specs.Replacing.{Answers, replace_fault};
+ghost use Rattle.mm_tree.specs.Replacing.{Answers, leaves_fault, replace_fault};
 ghost use Rattle.mm_tree.specs.ValidTree.{IsValidTree, most_weight};
 ghost use Rattle.mm_tree.specs.OutsideLeaves.{with_leaves};
 ghost use Rattle.mm_tree.specs.Paths.{names_outside, node_at, with_node, with_weight};
@@ -14,7 +15,7 @@ ghost use Rattle.mm_tree.specs.Weights.{weight_named};
 
 use crate::place::{Reached, search};
 use crate::replace::Outside;
-use crate::splice::{Sought, Spliced};
+use crate::splice::Sought;
 use crate::{MAX_DEPTH, MAX_LEAVES, Node, Place, ReplaceFault, replace, splice, walk};
 use indexmap::IndexSet;
 use mm_base::{Name, NameList, NoMemory};
@@ -129,7 +130,20 @@ impl Tree {
         ensures field { self.new.f ≡ self.old.f }
         ensures tree { self.new.tree ≡ with_weight name.now weight self.old.tree }
     {
-        walk::set_weight(&mut self.node, name, weight);
+        walk::exchange_weight(&mut self.node, name, weight);
+    }
+
+    /// Gives the element of this name another weight, and gives the weight before. None exactly where no element has the name, and then all
+    /// is as before. One walk.
+    pub fn exchange_weight(&mut self, name: &Name, weight: i64) -> Option<i64>
+        requires { nat_abs weight ≤ most_weight }
+        ensures before { result ≡ weight_named name.now self.old.tree }
+        ensures found { is_some result ≡ is_one_of name.now (element_names self.old.tree) }
+        ensures field { self.new.f ≡ self.old.f }
+        ensures tree { self.new.tree ≡ with_weight name.now weight self.old.tree }
+        ensures stays { result ≡ None → self.new ≡ self.old }
+    {
+        walk::exchange_weight(&mut self.node, name, weight)
     }
 
     /// The place of the node `up` steps above the leaf of a name. None exactly where no leaf has the name or its depth is below `up`.
@@ -149,9 +163,17 @@ impl Tree {
         requires { IsPlaceOf self.now.tree place.now }
         ensures { result ≡ boundary (node_at self.now.tree (path_of place.now.number self.now.tree)) }
     {
-        match splice::boundary_at(&self.node, place.number()) {
-            Sought::Here(t) => t,
-            Sought::Beyond(_) => 0,
+        walk::boundary(self.at(place))
+    }
+
+    /// The node at a place.
+    fn at(&self, place: &Place) -> &Node
+        requires { IsPlaceOf self.now.tree place.now }
+        ensures { named result.now ≡ node_at self.now.tree (path_of place.now.number self.now.tree) }
+    {
+        match splice::node_at(&self.node, place.number()) {
+            Sought::Here(node) => node,
+            Sought::Beyond(_) => &self.node,
         }
     }
 
@@ -165,9 +187,39 @@ impl Tree {
         requires { IsPlaceOf self.now.tree place.now }
         ensures { Answers result (replace_fault self.now.tree (path_of place.now.number self.now.tree) new.now.tree) }
     {
-        let (old, given) = (self.boundary_at(place), new.boundary());
+        let node = self.at(place);
+        let (old, given) = (walk::boundary(node), new.boundary());
         if old != given {
             return Err(ReplaceFault::Boundary(old, given));
+        }
+        match self.check_leaves(alloc, place, node, new) {
+            Ok(()) => {
+                if self.depth_at(place, new) > MAX_DEPTH {
+                    Err(ReplaceFault::TooDeep)
+                } else {
+                    Ok(())
+                }
+            }
+            Err(fault) => Err(fault),
+        }
+    }
+
+    /// Whether the leaves of a tree may be put at a place, where a node stands, or why not.
+    fn check_leaves(
+        &self,
+        alloc: Global,
+        place: &Place,
+        node: &Node,
+        new: &Tree,
+    ) -> Result<(), ReplaceFault>
+        requires place { IsPlaceOf self.now.tree place.now }
+        requires node { named node.now ≡ node_at self.now.tree (path_of place.now.number self.now.tree) }
+        ensures { Answers result (leaves_fault self.now.tree (path_of place.now.number self.now.tree) new.now.tree) }
+    {
+        let _ = &self.node;
+        // a name below the node is not one outside it, and one leaf is not more than there were: nothing else is to be seen
+        if replace::is_leaf_of(&new.node, node) {
+            return Ok(());
         }
         let names = new.leaf_set(alloc)?;
         let outside = self.outside(place, &names);
@@ -176,9 +228,6 @@ impl Tree {
         }
         if outside.leaves + names.len() > MAX_LEAVES {
             return Err(ReplaceFault::TooManyLeaves);
-        }
-        if self.depth_at(place, new) > MAX_DEPTH {
-            return Err(ReplaceFault::TooDeep);
         }
         Ok(())
     }
@@ -224,8 +273,8 @@ impl Tree {
         ensures old_field { result.f ≡ self.old.f }
         ensures old_tree { result.tree ≡ node_at self.old.tree (path_of place.now.number self.old.tree) }
     {
-        match splice::splice(&mut self.node, place.number(), new.node) {
-            Spliced::Done(node) | Spliced::NotHere(node, _) => Tree { node },
-        }
+        let mut node = new.node;
+        splice::splice(&mut self.node, place.number(), &mut node);
+        Tree { node }
     }
 }

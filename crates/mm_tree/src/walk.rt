@@ -169,31 +169,34 @@ fn weight_of_leaf(leaf: &Leaf, name: &Name) -> Option<i64>
     }
 }
 
-/// Gives the first element of a name, if there is one, another weight, and says whether there was one.
-pub(crate) fn set_weight(node: &mut Node, name: &Name, weight: i64) -> bool
+/// Gives the first element of a name another weight, and gives the weight before, if there is such an element.
+pub(crate) fn exchange_weight(node: &mut Node, name: &Name, weight: i64) -> Option<i64>
     ensures { IsReweighted name.now weight node.old node.new result }
 {
     match node {
-        Node::Leaf(leaf) => set_weight_of_leaf(leaf, name, weight),
-        Node::Join(_, _, left, right) => {
-            set_weight(left, name, weight) || set_weight(right, name, weight)
-        }
+        Node::Leaf(leaf) => exchange_weight_of_leaf(leaf, name, weight),
+        Node::Join(_, _, left, right) => match exchange_weight(left, name, weight) {
+            Some(before) => Some(before),
+            None => exchange_weight(right, name, weight),
+        },
     }
 }
 
-/// Gives the leaf another weight, where it is the element of this name, and says whether it is.
-fn set_weight_of_leaf(leaf: &mut Leaf, name: &Name, weight: i64) -> bool
-    ensures found { result ≡ (is_some leaf.old.item && bytes_eq name.now leaf.old.name) }
-    ensures leaf { leaf.new ≡ (if result then reweighted weight leaf.old else leaf.old) }
+/// Gives the leaf another weight, where it is the element of this name, and gives the weight before.
+fn exchange_weight_of_leaf(leaf: &mut Leaf, name: &Name, weight: i64) -> Option<i64>
+    ensures before { result ≡ weight_named name.now (named_leaf leaf.old) }
+    ensures found { is_some result ≡ (is_some leaf.old.item && bytes_eq name.now leaf.old.name) }
+    ensures leaf { leaf.new ≡ (if is_some result then reweighted weight leaf.old else leaf.old) }
 {
     if !is_named(leaf, name) {
-        return false;
+        return None;
     }
     match &mut leaf.item {
         Some(item) => {
+            let before = item.weight;
             item.weight = weight;
-            true
+            Some(before)
         }
-        None => false,
+        None => None,
     }
 }

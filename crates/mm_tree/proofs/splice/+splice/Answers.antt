@@ -6,21 +6,22 @@ use Rattle.mm_tree.specs.Steps.{IsSpliced}
 use Rattle.mm_tree.specs.declared.node.Node.{Node}
 use Rattle.mm_tree.specs.declared.node.Node.TheViews as views
 use Rattle.mm_tree.specs.declared.splice.Spliced.{Spliced}
-use Rattle.mm_tree.specs.declared.splice.Spliced.TheVariants.{Done, NotHere}
+use Rattle.mm_tree.specs.declared.splice.Spliced.TheVariants.{Done, Beyond}
 use Rattle.mm_tree.proofs.Walks.{named_of_leaf, leaf_nodes}
 use Rattle.mm_tree.proofs.StepLemmas.{exchanged_root, exchanged_left, spliced_right}
 use Rattle.mm_tree.proofs.splice.+splice.Goals as goal
 
-moved : (a b now : Node) (at : ℕ) (new : Node) (found last : Spliced) → a ≡ b → found ≡ last → IsSpliced a now at new found → IsSpliced b now at new last
-moved a b now at new found last e r s =
-    subst (λ (x : Node). IsSpliced x now at new last) e (subst (λ (x : Spliced). IsSpliced a now at new x) r s)
+moved : (a b now : Node) (at : ℕ) (new out : Node) (found last : Spliced) → a ≡ b → found ≡ last → IsSpliced a now at new out found →
+    IsSpliced b now at new out last
+moved a b now at new out found last e r s =
+    subst (λ (x : Node). IsSpliced x now at new out last) e (subst (λ (x : Spliced). IsSpliced a now at new out x) r s)
 
-for_node : (a b now : Node) (at : ℕ) (new : Node) (found : Spliced) → a ≡ b → IsSpliced b now at new found → IsSpliced a now at new found
-for_node a b now at new found e s = subst (λ (x : Node). IsSpliced x now at new found) (sym e) s
+for_node : (a b now : Node) (at : ℕ) (new out : Node) (found : Spliced) → a ≡ b → IsSpliced b now at new out found → IsSpliced a now at new out found
+for_node a b now at new out found e s = subst (λ (x : Node). IsSpliced x now at new out found) (sym e) s
 
 pub returns-then-at-eq0 : goal.returns-then-at-eq0
 returns-then-at-eq0 t c =
-    exchanged_root c.args.node.now c.replace.new.dest c.args.new c.replace.result c.args.at c.if-at-eq0.true c.replace.ensures.value c.replace.ensures.after
+    exchanged_root c.args.node.now c.swap.new.x c.args.new.now c.swap.new.y c.args.at c.if-at-eq0.true c.swap.ensures.y_after c.swap.ensures.x_after
 
 pub returns-in-Leaf : goal.returns-in-Leaf
 returns-in-Leaf t c =
@@ -28,20 +29,24 @@ returns-in-Leaf t c =
     let z = c.if-at-eq0.false in
     (refl, refl, omega arith)
 
-pub returns-in-NotHere : goal.returns-in-NotHere
-returns-in-NotHere t c =
+pub returns-in-Beyond : goal.returns-in-Beyond
+returns-in-Beyond t c =
     let n = c.in-Join.field-0 in
     let op = c.in-Join.field-1 in
     let l = c.in-Join.left in
     let r = c.in-Join.right in
-    let first = moved c.deref_mut.result.now l.value c.splice.new.node (c.args.at - 1) c.args.new c.splice.result (NotHere c.in-NotHere.new c.in-NotHere.rest)
-    c.deref_mut.ensures.value c.in-NotHere.is c.splice.ensures in
-    let more = moved c.deref_mut-in-NotHere.result.now r.value c.splice-in-NotHere.new.node c.in-NotHere.rest c.in-NotHere.new c.splice-in-NotHere.result
-    c.splice-in-NotHere.result c.deref_mut-in-NotHere.ensures.value refl c.splice-in-NotHere.ensures in
-    let same = subst (λ (x : Node). IsSpliced r.value c.splice-in-NotHere.new.node c.in-NotHere.rest x c.splice-in-NotHere.result) first.0 more in
-    for_node c.args.node.now (views.Join n op l r) (views.Join n op (with_value l c.splice.new.node) (with_value r c.splice-in-NotHere.new.node)) c.args.at
-    c.args.new c.splice-in-NotHere.result c.in-Join.is
-    (spliced_right n op l r c.splice.new.node c.splice-in-NotHere.new.node c.args.new c.args.at c.in-NotHere.rest c.splice-in-NotHere.result
+    let new = c.args.new.now in
+    let mid = c.splice.new.new in
+    let out = c.splice-in-Beyond.new.new in
+    let last = c.splice-in-Beyond.result in
+    let first = moved c.deref_mut.result.now l.value c.splice.new.node (c.args.at - 1) new mid c.splice.result (Beyond c.in-Beyond.rest)
+    c.deref_mut.ensures.value c.in-Beyond.is c.splice.ensures in
+    let more = moved c.deref_mut-in-Beyond.result.now r.value c.splice-in-Beyond.new.node c.in-Beyond.rest mid out last last
+    c.deref_mut-in-Beyond.ensures.value refl c.splice-in-Beyond.ensures in
+    let same = subst (λ (x : Node). IsSpliced r.value c.splice-in-Beyond.new.node c.in-Beyond.rest x out last) first.0 more in
+    for_node c.args.node.now (views.Join n op l r) (views.Join n op (with_value l c.splice.new.node) (with_value r c.splice-in-Beyond.new.node)) c.args.at
+    new out last c.in-Join.is
+    (spliced_right n op l r c.splice.new.node c.splice-in-Beyond.new.node new out c.args.at c.in-Beyond.rest last
     c.if-at-eq0.false first.1 first.2 same)
 
 pub returns-in-Done : goal.returns-in-Done
@@ -50,7 +55,9 @@ returns-in-Done t c =
     let op = c.in-Join.field-1 in
     let l = c.in-Join.left in
     let r = c.in-Join.right in
-    for_node c.args.node.now (views.Join n op l r) (views.Join n op (with_value l c.splice.new.node) r) c.args.at c.args.new (Done c.in-Done.old) c.in-Join.is
-    (exchanged_left n op l r c.splice.new.node c.args.new c.in-Done.old c.args.at c.if-at-eq0.false
-    (moved c.deref_mut.result.now l.value c.splice.new.node (c.args.at - 1) c.args.new c.splice.result (Done c.in-Done.old)
+    let new = c.args.new.now in
+    let out = c.splice.new.new in
+    for_node c.args.node.now (views.Join n op l r) (views.Join n op (with_value l c.splice.new.node) r) c.args.at new out Done c.in-Join.is
+    (exchanged_left n op l r c.splice.new.node new out c.args.at c.if-at-eq0.false
+    (moved c.deref_mut.result.now l.value c.splice.new.node (c.args.at - 1) new out c.splice.result Done
     c.deref_mut.ensures.value c.in-Done.is c.splice.ensures))

@@ -18,14 +18,14 @@ changed name weight v old new e s r =
 pub invariant_of-self : goal.invariant_of-self
 invariant_of-self c =
     let old = c.self.inside.node in
-    let new = c.set_weight.new.node in
+    let new = c.exchange_weight.new.node in
     let name = c.args.name.now in
     let f = field_of old in
-    stands f new (c.set_weight.ensures.over f c.self.invariant.over)
-    (subst (λ (t : Tree). IsValidTree f t) (sym (changed name c.args.weight _ old new (search rules) c.self.invariant c.set_weight.ensures))
+    stands f new (c.exchange_weight.ensures.over f c.self.invariant.over)
+    (subst (λ (t : Tree). IsValidTree f t) (sym (changed name c.args.weight _ old new (search rules) c.self.invariant c.exchange_weight.ensures))
     (valid_weight f name c.args.weight (named old) c.requires.light c.self.invariant.valid))
 
 pub returns-clause-tree : goal.returns-clause-tree
 returns-clause-tree c =
-    changed c.args.name.now c.args.weight _ c.self.inside.node c.set_weight.new.node (search rules) c.self.invariant c.set_weight.ensures
+    changed c.args.name.now c.args.weight _ c.self.inside.node c.exchange_weight.new.node (search rules) c.self.invariant c.exchange_weight.ensures
     ∙ ap (λ (v : TreeValue). with_weight c.args.name.now c.args.weight v.tree) c.self.view_is
