@@ -25,7 +25,7 @@ use Rattle.mm_decomp_laws.proofs.SpaceLemmas.{vector_in}
 of_same : (given : Given) (tree : Tree) → AreTheSame given tree → IsOfTree given tree
 of_same given tree h = of_compared given tree h.valid.valid_shape h.different (different_elements tree h.valid.different) h.rows h.same
 
-vectors_within : (f : Field) (n : ℕ) (rows sows : List (List ℕ)) → AreVectors f n sows → IsWithin f n rows sows → AreVectors f n rows
+pub vectors_within : (f : Field) (n : ℕ) (rows sows : List (List ℕ)) → AreVectors f n sows → IsWithin f n rows sows → AreVectors f n rows
 vectors_within f n rows sows h w = λ i d l. vector_in f n sows (get_or rows i d) h (w i d l)
 
 -- the leaves of the shape are the elements

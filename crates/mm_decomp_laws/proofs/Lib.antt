@@ -6,3 +6,10 @@ pub mod ConnectivityLemmas
 pub mod StandsForLemmas
 pub mod RowSpaceLemmas
 pub mod DualLawLemmas
+pub mod HeaderTextLineLemmas
+pub mod HeaderWordLemmas
+pub mod HeaderReadLemmas
+pub mod WrittenHeaderLemmas
+pub mod BuiltHeaderLemmas
+pub mod BuiltValidLemmas
+pub mod QueryLawLemmas

@@ -1,8 +1,8 @@
 pub mod ReaderLemmas
-mod SpacedLemmas
-mod NumeralLemmas
-mod TextLineLemmas
-mod WrittenLineLemmas
-mod WrittenTreeLemmas
+pub mod SpacedLemmas
+pub mod NumeralLemmas
+pub mod TextLineLemmas
+pub mod WrittenLineLemmas
+pub mod WrittenTreeLemmas
 pub mod ReadingLemmas
 mod ReadTreeLemmas

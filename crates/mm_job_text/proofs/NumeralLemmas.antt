@@ -45,7 +45,7 @@ decimal_word n h = record {
   bytes = all_above is_ascii_digit (decimal n) (λ b p. omega (arith, digit_above b p)) (decimal_digits n h);
 }
 
-number_back : (most n : ℕ) → 0 < most → n < 10 ^ most → n < 2 ^ 64 → number_of most (decimal n) ≡ Some n
+pub number_back : (most n : ℕ) → 0 < most → n < 10 ^ most → n < 2 ^ 64 → number_of most (decimal n) ≡ Some n
 number_back most n some small h =
     let ds = decimal n in
     ap (λ (b : Bool). if b then Some (digits_value 10 ds) else None)

@@ -40,7 +40,7 @@ lines_at_both number (x ∷ xs) ys =
     (lines_at_both (number + 1) xs ys
     ∙ ap (λ (k : ℕ). lines_at (number + 1) xs ++ lines_at k ys) {x = number + 1 + length xs} {y = number + length (x ∷ xs)} (omega arith))
 
-not_newline : (b : ℕ) → 32 ≤ b → is_newline b ≡ false
+pub not_newline : (b : ℕ) → 32 ≤ b → is_newline b ≡ false
 not_newline b h = above_is_not b 10 (b == 10) (omega arith) refl
 
 no_newline : (line : List ℕ) → IsPlainLine line → All (λ b. is_newline b ≡ false) line
@@ -51,12 +51,12 @@ split_text [] h = refl
 split_text (l ∷ ls) h =
     slice_split_at is_newline l 10 (text_of_lines ls) (no_newline l h.0) refl ∙ ap (λ (parts : List (List ℕ)). l ∷ parts) (split_text ls h.1)
 
-closed_all : (ls : List (List ℕ)) → closed true (ls ++ [] ∷ []) ≡ ls ++ [] ∷ []
+pub closed_all : (ls : List (List ℕ)) → closed true (ls ++ [] ∷ []) ≡ ls ++ [] ∷ []
 closed_all [] = refl
 closed_all (l ∷ []) = refl
 closed_all (l ∷ k ∷ ls) = ap (λ (parts : List (List ℕ)). l ∷ parts) (closed_all (k ∷ ls))
 
-nonempty : (line : List ℕ) → 36 ≤ get_or line 0 0 → 0 < length line
+pub nonempty : (line : List ℕ) → 36 ≤ get_or line 0 0 → 0 < length line
 nonempty [] h = absurd (omega arith)
 nonempty (b ∷ bs) h = omega arith
 
@@ -82,7 +82,7 @@ line_of_plain number line h =
     ∙ ap (λ (b : Bool). if b then [] else line_at number line ∷ []) (not_passed line h)
 
 -- an empty piece at the end of a text is no line
-no_line : (number : ℕ) → numbered number ([] ∷ []) ≡ []
+pub no_line : (number : ℕ) → numbered number ([] ∷ []) ≡ []
 no_line number = ap (λ (ts : List (List ℕ)). (if not (has_some ts) then [] else line_at number [] ∷ []) ++ []) tokens_nil
 
 numbered_plain : (number : ℕ) (ls : List (List ℕ)) → ArePlain ls → numbered number (ls ++ [] ∷ []) ≡ lines_at number ls

@@ -84,7 +84,7 @@ plain_both : (xs ys : List (List ℕ)) → ArePlain xs → ArePlain ys → ArePl
 plain_both [] ys p q = q
 plain_both (x ∷ xs) ys p q = (p.0, plain_both xs ys p.1 q)
 
-plain_nodes : (f : Field) (tree : Tree) → IsValidTree f tree → ArePlain (node_lines tree)
+pub plain_nodes : (f : Field) (tree : Tree) → IsValidTree f tree → ArePlain (node_lines tree)
 unfolding node_lines
 plain_nodes f (Elem name vec weight) v =
     let good = elem_good f name vec weight v in
@@ -97,7 +97,7 @@ plain_nodes f (Join name op left right) v =
     plain_both (node_lines left) (node_lines right ++ join_text name ∷ []) (plain_nodes f left (valid_left f name op left right v))
     (plain_both (node_lines right) (join_text name ∷ []) (plain_nodes f right (valid_right f name op left right v)) (join_plain name good.named, tt))
 
-node_count : (tree : Tree) → length (node_lines tree) ≡ nodes tree
+pub node_count : (tree : Tree) → length (node_lines tree) ≡ nodes tree
 unfolding node_lines nodes
 node_count (Elem name vec weight) = refl
 node_count (Void name t) = refl
@@ -161,12 +161,12 @@ void_new most name t trees h = record {
 
 -- ---- reading
 
-each_passes : {A : Type 0} (test : Line → Bool) (g : A → Line → Result A Refusal) (x y : A) (r : Line) (rs : List Line) → test r ≡ true → g x r ≡ Ok y
+pub each_passes : {A : Type 0} (test : Line → Bool) (g : A → Line → Result A Refusal) (x y : A) (r : Line) (rs : List Line) → test r ≡ true → g x r ≡ Ok y
     → each test g x (r ∷ rs) ≡ each test g y rs
 each_passes {A} test g x y r rs t e =
     ap (λ (b : Bool). if b then goes_on (g x r) (λ z. each test g z rs) else Read x (r ∷ rs)) t ∙ ap (λ (res : Result A Refusal). goes_on res (λ z. each test g z rs)) e
 
-each_stops : {A : Type 0} (test : Line → Bool) (g : A → Line → Result A Refusal) (x : A) (r : Line) (rs : List Line) → test r ≡ false → each test g x (r ∷ rs) ≡ Read x (r ∷ rs)
+pub each_stops : {A : Type 0} (test : Line → Bool) (g : A → Line → Result A Refusal) (x : A) (r : Line) (rs : List Line) → test r ≡ false → each test g x (r ∷ rs) ≡ Read x (r ∷ rs)
 each_stops test g x r rs t = ap (λ (b : Bool). if b then goes_on (g x r) (λ z. each test g z rs) else Read x (r ∷ rs)) t
 
 reads_elem : (most : ℕ) (f : Field) (ops : OperatorList) (name vec : List ℕ) (weight : ℤ) (trees : List Tree) (number : ℕ) (rest : List Line)
@@ -229,7 +229,7 @@ reads_tree most f ops (Join name op left right) trees number rest v j a =
 
 -- ---- the whole text
 
-alone : (most : ℕ) (f : Field) (tree : Tree) → IsValidTree f tree → length (leaf_names tree) ≤ most → IsApart most tree []
+pub alone : (most : ℕ) (f : Field) (tree : Tree) → IsValidTree f tree → length (leaf_names tree) ≤ most → IsApart most tree []
 alone most f tree v few = record { apart = λ x e. refl; few = omega (arith, v.few); room = omega (arith, few) }
 
 reads_end : (tree : Tree) (number : ℕ) → and_then (Read (tree ∷ []) (line_at number (codes "end") ∷ [])) (λ all. line (end_line all)) ≡ Read (tree, number) []
