@@ -13,19 +13,16 @@ use Rattle.mm_logic.specs.Growth.{root, missing_cells, AllGrown}
 use Rattle.mm_logic.proofs.GrowthLemmas.{AllBegin-grown, type_at-begins, within-begins}
 use Rattle.mm_logic_laws.specs.ValueLaws.{types_by_rules}
 use Rattle.mm_ops.specs.OpValue.{OpValue}
-use Rattle.mm_states.specs.Letters.{IsLetter, IsVectorOf, leaf_type, type_at_leaf, marks_of}
-use Rattle.mm_states.specs.Letters as letters
-use Rattle.mm_states.specs.Calls.{Answers, Numbers, CanRead, value_of_join}
+use Rattle.mm_states.specs.Letters.{leaf_type, type_at_leaf, marks_of}
+use Rattle.mm_states.specs.Calls.{Answers, Numbers, value_of_join}
 use Rattle.mm_states.specs.declared.letter.AutoFault.{AutoFault}
 use Rattle.mm_states.specs.declared.letter.AutoFault.TheVariants as auto
 use Rattle.mm_states.specs.declared.letter.Letter.{Letter}
-use Rattle.mm_tree.specs.NamedTree.{Tree, shape, boundary}
-use Rattle.mm_tree.specs.Nodes.{named_leaf, IsOver}
-use Rattle.mm_tree.specs.ValidTree.{IsValidTree}
+use Rattle.mm_tree.specs.NamedTree.{Tree, shape}
+use Rattle.mm_tree.specs.Nodes.{named_leaf}
 use Rattle.mm_tree.specs.declared.node.Item.{Item}
 use Rattle.mm_tree.specs.declared.node.Leaf.{Leaf}
-use Rattle.mm_tree.specs.declared.node.Node as nodes_of
-use Rattle.mm_nodes.specs.Calls.{CanMakeLeaf, Makes}
+use Rattle.mm_nodes.specs.Calls.{Makes}
 use Rattle.mm_nodes.specs.declared.keeps.KeepFault.{KeepFault}
 use Rattle.mm_nodes.specs.declared.keeps.KeepFault.TheVariants.{Full}
 use Rattle.mm_runs.specs.RunCalls.{IsLeafRun, IsJoinRun, Runs, IsRunOf}

@@ -1,19 +1,13 @@
 -- Runs of a whole tree.
-use Rattle.std.proofs.Common.{◌≡◌, ◌<◌, ◌≤◌, ℕ, List, [], ◌∷◌, map, length, Result, Ok, Err, refl, sym, ap, ◌∙◌, subst, arith}
+use Rattle.std.proofs.Common.{◌<◌, ℕ, List, length}
 use Rattle.mm_field.specs.declared.Field.{Field}
 use Rattle.mm_logic.specs.Formula.{Formula}
-use Rattle.mm_logic.specs.Formula.Formula.{Const, Ind, Member, SameElem, Sub, SameSet, Not, Bin, ExSet, AllSet, ExElem, AllElem}
 use Rattle.mm_logic.specs.Value.{Value}
-use Rattle.mm_logic.specs.Occurrence.{nodes as parts, occurring, list_cells}
-use Rattle.mm_logic.specs.Growth.{root, no_values, AllGrown}
-use Rattle.mm_logic.proofs.GrowthLemmas.{AllGrown-none}
-use Rattle.mm_logic.proofs.OccurrenceLemmas.{cells-none}
-use Rattle.std.specs.Prelude.{OnOk, OnErr}
+use Rattle.mm_logic.specs.Growth.{root}
 use Rattle.mm_tree.specs.NamedTree.{Tree}
 use Rattle.mm_tree.specs.NamedTree.Tree.{Elem, Void, Join}
 use Rattle.mm_nodes.specs.KeptTrees.{KeptTree, top}
 use Rattle.mm_nodes.specs.KeptTrees.KeptTree.{One, Two}
-use Rattle.mm_nodes.specs.Demands.{IsExact}
 use Rattle.mm_runs.specs.RunsView.{AreBelow}
 use Rattle.mm_runs.specs.RunsCalls.{StandFor}
 
