@@ -1,4 +1,5 @@
 pub mod CopyLemmas
 pub mod FrontLemmas
 pub mod NameLemmas
+pub mod NumberLemmas
 pub mod PaddedLemmas

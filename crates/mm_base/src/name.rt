@@ -5,6 +5,7 @@ ghost use Rattle.mm_base.specs.Names.{is_name, is_name_byte, name_of};
 
 use crate::NoMemory;
 use std::alloc::Global;
+use std::hash::{Hash, Hasher};
 use std::marker::Model;
 
 /// The most bytes of a name.
@@ -13,7 +14,7 @@ const MAX_NAME: usize = 16;
 /// A name: a lower-case letter and then lower-case letters, digits and underscores, 1 to 16 bytes in all.
 ///
 /// It is kept in place, so that a copy is a plain move and a look-up hashes no far memory.
-#[derive(Clone, Copy, Debug, PartialEq, Eq, Hash)]
+#[derive(Clone, Copy, Debug)]
 pub struct Name {
     /// The name, and zeros after it, so that equal names have equal fields.
     bytes: [u8; 16],
@@ -35,6 +36,41 @@ impl Model for Name {
     ghost inverse = { fields_of };
 
     ghost inverse_ok = { fields_of-text_of };
+}
+
+impl PartialEq for Name {
+    ghost use Rattle.std.specs.Str.{bytes_eq};
+    ghost use Rattle.std.specs.Cmp.{partial_equiv_from_equiv};
+    ghost use Rattle.std.proofs.lemmas.Cmp.{nat_list_eq_equiv};
+
+    ghost eq = { bytes_eq };
+
+    ghost laws = { partial_equiv_from_equiv nat_list_eq_equiv };
+
+    #[inline(always)]
+    fn eq(&self, other: &Self) -> bool {
+        u128::from_le_bytes(self.bytes) == u128::from_le_bytes(other.bytes) && self.len == other.len
+    }
+}
+
+impl Eq for Name {
+    ghost use Rattle.std.proofs.lemmas.Cmp.{nat_list_eq_equiv};
+
+    ghost laws = { nat_list_eq_equiv };
+}
+
+impl Hash for Name {
+    ghost use Rattle.std.specs.Hash as fed;
+    ghost use Rattle.mm_base.specs.NameFields.{number_of, same_number};
+
+    ghost hash_input = { λ name. fed.u128 (number_of name) };
+
+    ghost respects_eq = { same_number };
+
+    #[inline(always)]
+    fn hash<H: Hasher>(&self, state: &mut H) {
+        state.write_u128(u128::from_le_bytes(self.bytes));
+    }
 }
 
 fn is_name_byte(b: u8) -> bool
