@@ -12,7 +12,7 @@ use Rattle.mm_tree.specs.NamedTree.{is_one_of}
 use Rattle.mm_tree.specs.ValidTree.{AreNames, most_depth, most_weight}
 use Rattle.mm_job_text.specs.HeaderLines.{most_rows}
 use Rattle.mm_job_text.specs.Readers.{Read}
-use Rattle.mm_decomp.specs.BuildOutput.{matrix_in}
+use Rattle.mm_decomp.specs.BuildOutput.{build_output, matrix_in}
 use Rattle.mm_decomp.specs.BuiltTree.{built}
 use Rattle.mm_decomp.specs.DualOutput.{empty_text}
 use Rattle.mm_decomp.specs.HeaderText.{header_text}
@@ -49,8 +49,10 @@ pub record ReachesQuery (header rest : List ℕ) : Type 0 where
   pub reads : parts job_rules (lines (header ++ rest)) ≡ Read given (lines_after lines_before rest)
   pub agrees : matched given ≡ Ok tt
 
--- After the header of a tree that is built, and after that of a tree without elements, a query line decides.
+-- After the header that `build` makes of a text, after that of each tree that is built, and after that of a tree without elements, a query
+-- line decides.
 pub record QueriesDecide : Type 0 where
+  pub after_build : (text header rest : List ℕ) → build_output text ≡ Ok header → length rest ≤ most_after → ReachesQuery header rest
   pub after_built :
       (given : Given) (shape : Shape) (rest : List ℕ) → IsBuildable given shape → length rest ≤ most_after
       → ReachesQuery (header_text given.names (matrix_in given) (built given 0 [] shape)) rest
