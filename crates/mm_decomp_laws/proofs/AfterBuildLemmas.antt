@@ -1,5 +1,5 @@
 -- The header that is made of the text of a decomposition is that of names, rows and a shape that can be built.
-use Rattle.std.proofs.Common.{◌≡◌, ℕ, ◌+◌, ◌<◌, ◌≤◌, Bool, true, false, cond, not, ℤ, nat_abs, Option, Some, None, List, [], ◌∷◌, ◌++◌, length, get_or, refl, sym, ap, ◌∙◌, subst, arith}
+use Rattle.std.proofs.Common.{◌≡◌, ℕ, ◌<◌, ◌≤◌, Bool, true, false, cond, not, ℤ, nat_abs, Option, Some, None, List, [], ◌∷◌, length, get_or, refl, sym, ap, ◌∙◌, subst, arith}
 use Rattle.std.specs.Prelude.{nat_lt, All, IfOk, Ok, Err}
 use Rattle.std.specs.declared.result.Result.{Result}
 use Rattle.std.specs.List.{IsDistinct, position, position_or_len, AllByRecursion}
@@ -24,14 +24,14 @@ use Rattle.mm_decomp.specs.Decompositions.{Decomposition, build_parts, decomposi
 use Rattle.mm_decomp.specs.HeaderText.{header_text}
 use Rattle.mm_decomp.specs.Shapes.{AreSteps, FindTwo, IsLight, Shape, after_steps, depth, leaf_names, names}
 use Rattle.mm_decomp.specs.Shapes.Shape.{Leaf, Join}
-use Rattle.mm_decomp.specs.Spaces.{Given, boundaries, first_wide}
+use Rattle.mm_decomp.specs.Spaces.{boundaries, first_wide}
 use Rattle.mm_decomp.specs.declared.shape.Step.{Step}
 use Rattle.mm_decomp.specs.declared.shape.Step.TheVariants as steps
 use Rattle.mm_decomp.proofs.BuildOutputLemmas.{has_one}
 use Rattle.mm_decomp.proofs.MakeLemmas.{names_after, names_in}
-use Rattle.mm_decomp_laws.specs.QueriesAfterHeaders.{IsBuildable, QueriesDecide, ReachesQuery, leaf_weights}
+use Rattle.mm_decomp_laws.specs.QueriesAfterHeaders.{IsBuildable, ReachesQuery, leaf_weights}
 use Rattle.mm_decomp_laws.specs.WrittenHeaders.{most_after}
-use Rattle.mm_decomp_laws.proofs.QueryLawLemmas.{after_built, after_empty}
+use Rattle.mm_decomp_laws.proofs.QueryLawLemmas.{after_built}
 use Rattle.mm_decomp_laws.proofs.ReadBuildLemmas.{IsReadBuild, build_has}
 
 -- ---- the shape of some steps
@@ -163,7 +163,7 @@ header_is d header h e =
     }
     go s i (Some step) q e = cc
 
-after_build : (text header rest : List ℕ) → build_output text ≡ Ok header → length rest ≤ most_after → ReachesQuery header rest
+pub after_build : (text header rest : List ℕ) → build_output text ≡ Ok header → length rest ≤ most_after → ReachesQuery header rest
 unfolding build_output
 after_build text header rest e l = go (decomposition_of text) (decomposed text) e
   where
@@ -172,6 +172,3 @@ after_build text header rest e l = go (decomposition_of text) (decomposed text) 
         let w = header_is d header h e in
         subst (λ (t : List ℕ). ReachesQuery t rest) w.text (after_built d.given w.shape rest (buildable d w.shape h w.is w.narrow) l)
     go (Err r) h e = cc
-
-pub queries_decide : QueriesDecide
-queries_decide = record { after_build = after_build; after_built = after_built; after_empty = after_empty }

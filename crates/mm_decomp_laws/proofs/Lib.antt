@@ -15,3 +15,4 @@ pub mod BuiltValidLemmas
 pub mod QueryLawLemmas
 pub mod ReadBuildLemmas
 pub mod AfterBuildLemmas
+pub mod AfterDualLemmas

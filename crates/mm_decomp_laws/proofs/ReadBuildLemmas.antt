@@ -1,14 +1,11 @@
 -- What is read of the text of a decomposition can be built, where no boundary is above 6.
-use Rattle.std.proofs.Common.{◌≡◌, ℕ, ◌+◌, ◌<◌, ◌≤◌, Bool, true, false, cond, not, max, ℤ, nat_abs, Option, Some, None, List, [], ◌∷◌, ◌++◌, length, map, get_or, refl, sym, ap, ap₂, ◌∙◌, subst, arith}
-use Rattle.std.specs.Prelude.{◌&&◌, ◌==◌, nat_le, nat_lt, codes, All, IfOk, Ok, Err, if◌then◌else◌}
-use Rattle.std.specs.declared.result.Result.{Result}
-use Rattle.std.specs.List.{IsDistinct, list_all, position, position_or_len}
-use Rattle.std.specs.Option.{option_map, option_or}
+use Rattle.std.proofs.Common.{◌≡◌, ℕ, ◌<◌, ◌≤◌, Bool, true, false, not, max, nat_abs, Some, None, List, [], ◌∷◌, length, map, refl, sym, subst, arith}
+use Rattle.std.specs.Prelude.{◌&&◌, ◌==◌, nat_le, nat_lt, codes, IfOk, if◌then◌else◌}
+use Rattle.std.specs.List.{IsDistinct, list_all}
 use Rattle.std.specs.Str.{bytes_eq}
-use Rattle.std.proofs.lemmas.Bool.{and_parts, eqb-true, leb-false, leb-true, ltb-false, ltb-true}
+use Rattle.std.proofs.lemmas.Bool.{and_parts, eqb-true, leb-false, leb-true, ltb-true}
 use Rattle.std.proofs.lemmas.List.{length-append}
-use Rattle.std.proofs.lemmas.List.Elements.{All-append, All-cons, All-head, All-nil, All-tail}
-use Rattle.std.proofs.lemmas.List.Sums.{fails_before_first}
+use Rattle.std.proofs.lemmas.List.Elements.{All-append, All-cons, All-nil}
 use Rattle.std.proofs.lemmas.Option.{none-some, same_Some}
 use Rattle.mm_base.specs.Names.{is_name}
 use Rattle.mm_field.specs.Digits.{order}
@@ -19,12 +16,12 @@ use Rattle.mm_lines.specs.declared.line.Line.{Line}
 use Rattle.mm_space.specs.DigitTexts.{digit_of, digits_of, is_digit}
 use Rattle.mm_space.proofs.DigitTextLemmas.{small_digits}
 use Rattle.mm_tree.specs.NamedTree.{is_one_of}
-use Rattle.mm_tree.specs.ValidTree.{AreNames, most_depth, most_weight}
+use Rattle.mm_tree.specs.ValidTree.{AreNames, most_weight}
 use Rattle.mm_tree.proofs.BuilderLemmas.{distinct_push}
 use Rattle.mm_job_text.specs.Arguments.{args, begins, is_word, one_of, two_of}
 use Rattle.mm_job_text.specs.Checks.{require}
 use Rattle.mm_job_text.specs.HeaderLines.{elements_line, field_line, most_rows, row_line, with_name, with_names}
-use Rattle.mm_job_text.specs.Readers.{Reading, each, line}
+use Rattle.mm_job_text.specs.Readers.{each, line}
 use Rattle.mm_job_text.specs.declared.refusal.Limit.TheVariants as limit
 use Rattle.mm_job_text.specs.declared.refusal.Refusal.{Refusal}
 use Rattle.mm_job_text.specs.declared.refusal.Refusal.TheVariants as refusal
@@ -32,12 +29,10 @@ use Rattle.mm_job_text.proofs.ReadingLemmas.{IfRead, anything, each_has, if_foun
 use Rattle.mm_decomp.specs.BuildLines.{StepLines, build_line, end_line, is_shape_part, join_line, leaf_fields, leaf_line, shape_line, shape_part, shape_refusal}
 use Rattle.mm_decomp.specs.Decompositions.{Decomposition, build_parts, field_part, names_part, no_line, nothing_after, rows_part, steps_part}
 use Rattle.mm_decomp.specs.ShapeBuilding.{join_fault, leaf_fault, pair_fault}
-use Rattle.mm_decomp.specs.Shapes.{AreSteps, FindTwo, Shape, after_steps, depth, leaf_names, most_leaves}
+use Rattle.mm_decomp.specs.Shapes.{AreSteps, Shape, after_steps, depth, leaf_names, most_leaves}
 use Rattle.mm_decomp.specs.Spaces.{Given}
 use Rattle.mm_decomp.specs.declared.shape.Step.{Step}
-use Rattle.mm_decomp.specs.declared.shape.Step.TheVariants as steps
-use Rattle.mm_decomp.specs.declared.shape_builder.ShapeFault.{ShapeFault}
-use Rattle.mm_decomp.specs.declared.shape_builder.ShapeFault.TheVariants.{NameTaken, TooFew, TooDeep, TooManyLeaves}
+use Rattle.mm_decomp.specs.declared.shape_builder.ShapeFault.TheVariants.{NameTaken, TooDeep, TooManyLeaves}
 use Rattle.mm_decomp.proofs.ShapeBuilderLemmas.{HasTwo, steps_with_join, steps_with_leaf}
 
 -- ---- names
