@@ -22,14 +22,14 @@ use Rattle.mm_decomp_laws.specs.Ranks.{IsOver}
 use Rattle.mm_decomp_laws.proofs.RowSpaceLemmas.{built_law}
 use Rattle.mm_decomp_laws.proofs.SpaceLemmas.{vector_in}
 
-of_same : (given : Given) (tree : Tree) → AreTheSame given tree → IsOfTree given tree
+pub of_same : (given : Given) (tree : Tree) → AreTheSame given tree → IsOfTree given tree
 of_same given tree h = of_compared given tree h.valid.valid_shape h.different (different_elements tree h.valid.different) h.rows h.same
 
 pub vectors_within : (f : Field) (n : ℕ) (rows sows : List (List ℕ)) → AreVectors f n sows → IsWithin f n rows sows → AreVectors f n rows
 vectors_within f n rows sows h w = λ i d l. vector_in f n sows (get_or rows i d) h (w i d l)
 
 -- the leaves of the shape are the elements
-shape_names : (tree : Tree) (s : Shape) → element_shape tree ≡ Some s → names s ≡ element_names tree
+pub shape_names : (tree : Tree) (s : Shape) → element_shape tree ≡ Some s → names s ≡ element_names tree
 shape_names tree s e = ap names_if (sym e) ∙ same_names tree
 
 pub trees_are_dual : TreesOfDualsAreDual

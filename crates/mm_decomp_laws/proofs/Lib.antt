@@ -13,3 +13,6 @@ pub mod WrittenHeaderLemmas
 pub mod BuiltHeaderLemmas
 pub mod BuiltValidLemmas
 pub mod QueryLawLemmas
+pub mod ReadBuildLemmas
+pub mod AfterBuildLemmas
+pub mod AfterDualLemmas

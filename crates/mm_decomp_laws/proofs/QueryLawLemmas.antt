@@ -26,7 +26,7 @@ use Rattle.mm_decomp.specs.HeaderText.{field_text, header_text, operator_lines}
 use Rattle.mm_decomp.specs.Shapes.{Shape, names}
 use Rattle.mm_decomp.specs.Spaces.{Given}
 use Rattle.mm_decomp.proofs.OrderLemmas.{AreSame, AreVectors-in_order}
-use Rattle.mm_decomp_laws.specs.QueriesAfterHeaders.{IsBuildable, QueriesDecide, ReachesQuery}
+use Rattle.mm_decomp_laws.specs.QueriesAfterHeaders.{IsBuildable, ReachesQuery}
 use Rattle.mm_decomp_laws.specs.Ranks.{IsOver}
 use Rattle.mm_decomp_laws.specs.WrittenHeaders.{IsOfFormatOne, IsReadable, header_length, header_parts, most_after, operators_of}
 use Rattle.mm_decomp_laws.proofs.BuiltHeaderLemmas.{built_format, built_joins_differ, built_leaves}
@@ -114,7 +114,7 @@ readable given s h =
       operators = built_joins_differ given.f given s count;
     }
 
-after_built : (given : Given) (s : Shape) (rest : List ℕ) → IsBuildable given s → length rest ≤ most_after
+pub after_built : (given : Given) (s : Shape) (rest : List ℕ) → IsBuildable given s → length rest ≤ most_after
     → ReachesQuery (header_text given.names (matrix_in given) (built given 0 [] s)) rest
 after_built given s rest h l =
     let tree = built given 0 [] s in
@@ -170,7 +170,7 @@ leaf_agrees : (f : Field) → compared f (record { names = []; rows = [] }) leaf
 unfolding compared present_rows element_names shape
 leaf_agrees f = refl
 
-after_empty : (f : Field) (rest : List ℕ) → length rest ≤ most_after → ReachesQuery (empty_text f) rest
+pub after_empty : (f : Field) (rest : List ℕ) → length rest ≤ most_after → ReachesQuery (empty_text f) rest
 after_empty f rest l =
     subst (λ (header : List ℕ). ReachesQuery header rest) (empty_is f)
     (record {
@@ -179,6 +179,3 @@ after_empty f rest l =
       reads = written_headers [] (nothing f) leaf rest (leaf_is_readable f) l;
       agrees = ap verdict_refusal (leaf_agrees f);
     })
-
-pub queries_decide : QueriesDecide
-queries_decide = record { after_built = after_built; after_empty = after_empty }

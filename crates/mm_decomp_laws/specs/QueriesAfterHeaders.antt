@@ -1,24 +1,26 @@
 -- The text that is put after the header of a tree that is built: its first line is the first that can be refused, and the rows and the tree
 -- agree.
-use Rattle.std.specs.Prelude.{◌≡◌, ◌≤◌, ◌∷◌, ◌++◌, ℕ, ℤ, nat_abs, List, [], length, All, true, Ok}
+use Rattle.std.specs.Prelude.{◌≡◌, ◌+◌, ◌≤◌, ◌∷◌, ◌++◌, ℕ, ℤ, nat_abs, List, [], length, All, true, false, Ok}
 use Rattle.std.specs.List.{IsDistinct}
 use Rattle.std.specs.Str.{bytes_eq}
 use Rattle.mm_field.specs.Vectors.{AreVectors}
 use Rattle.mm_field.specs.declared.Field.{Field}
 use Rattle.mm_header.specs.Header.{Parts, matched, parts}
 use Rattle.mm_header.specs.Rules.{job_rules}
-use Rattle.mm_lines.specs.Lines.{lines}
-use Rattle.mm_tree.specs.NamedTree.{is_one_of}
+use Rattle.mm_lines.specs.Lines.{is_newline, line_of, lines}
+use Rattle.mm_tree.specs.NamedTree.{Tree, is_one_of}
 use Rattle.mm_tree.specs.ValidTree.{AreNames, most_depth, most_weight}
 use Rattle.mm_job_text.specs.HeaderLines.{most_rows}
 use Rattle.mm_job_text.specs.Readers.{Read}
-use Rattle.mm_decomp.specs.BuildOutput.{matrix_in}
+use Rattle.mm_decomp.specs.BuildOutput.{build_output, matrix_in}
 use Rattle.mm_decomp.specs.BuiltTree.{built}
-use Rattle.mm_decomp.specs.DualOutput.{empty_text}
+use Rattle.mm_decomp.specs.DualOutput.{dual_header, empty_text}
 use Rattle.mm_decomp.specs.HeaderText.{header_text}
 use Rattle.mm_decomp.specs.Shapes.{Shape, depth, most_leaves, names}
 use Rattle.mm_decomp.specs.Shapes.Shape.{Leaf, Join}
 use Rattle.mm_decomp.specs.Spaces.{Given, boundaries}
+use Rattle.mm_decomp.specs.TreeShapes.{element_shape}
+use Rattle.mm_decomp_laws.specs.DualLaws.{AreTheSame}
 use Rattle.mm_decomp_laws.specs.WrittenHeaders.{lines_after, most_after}
 
 -- The weights of the leaves, from left to right.
@@ -49,8 +51,15 @@ pub record ReachesQuery (header rest : List ℕ) : Type 0 where
   pub reads : parts job_rules (lines (header ++ rest)) ≡ Read given (lines_after lines_before rest)
   pub agrees : matched given ≡ Ok tt
 
--- After the header of a tree that is built, and after that of a tree without elements, a query line decides.
+-- A query line is one line. It decides after the header that `build` makes of a text, after that of the dual of a matrix and its tree, after
+-- that of each tree that is built, and after that of a tree without elements.
 pub record QueriesDecide : Type 0 where
+  pub one_line :
+      (n : ℕ) (query : List ℕ) → All (λ b. is_newline b ≡ false) query → lines_after n (query ++ 10 ∷ []) ≡ line_of (n + 1) query
+  pub after_build : (text header rest : List ℕ) → build_output text ≡ Ok header → length rest ≤ most_after → ReachesQuery header rest
+  pub after_dual :
+      (given : Given) (tree : Tree) (rest : List ℕ) → AreTheSame given tree → AreNames given.names → length given.names ≤ most_leaves
+      → length rest ≤ most_after → ReachesQuery (dual_header given (element_shape tree)) rest
   pub after_built :
       (given : Given) (shape : Shape) (rest : List ℕ) → IsBuildable given shape → length rest ≤ most_after
       → ReachesQuery (header_text given.names (matrix_in given) (built given 0 [] shape)) rest

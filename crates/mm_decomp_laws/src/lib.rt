@@ -1,5 +1,5 @@
-//! The laws of trees that are built for decompositions, proved over the definitions alone. Each law is the contract of a function that
-//! does nothing.
+//! The laws of trees that are built for decompositions, and of the headers that are written of them, proved over the definitions alone.
+//! Each law is the contract of a function that does nothing.
 #![tactic(auto)]
 
 ghost use Rattle.mm_decomp_laws.specs.DualLaws.{DualsAreNarrow, TreesOfDualsAreDual};
@@ -34,7 +34,8 @@ pub fn written_headers_are_read()
     ensures { WrittenHeadersAreRead }
 {}
 
-/// After the header of a tree that is built, a query line is the first line that can be refused, and the rows and the tree agree.
+/// After the header that `build` makes of a text, and after that of a dual, a query line is the first line that can be refused, and the
+/// rows and the tree agree.
 pub fn queries_after_headers_decide()
     ensures { QueriesDecide }
 {}
