@@ -80,10 +80,14 @@ spelled_query r =
     else if begins (codes "least") r then least_query r
     else Err (refusal.Syntax r.number)
 
+-- `minor`
+unfoldable pub minor_line : Line → Result (Unit {0}) Refusal
+minor_line r = require (is_word (codes "minor") r) (refusal.Syntax r.number)
+
 -- `minor`, which asks whether this formula holds
 unfoldable pub minor_query : Syntax → Line → Result Query Refusal
 minor_query F r = do
-  require (is_word (codes "minor") r) (refusal.Syntax r.number)
+  minor_line r
   scoped r.number None F
 
 -- The query line.

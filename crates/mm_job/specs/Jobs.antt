@@ -6,16 +6,17 @@ use Rattle.mm_base.specs.Causes.{GrowsByFront, Rose}
 use Rattle.mm_base.specs.declared.status.Status.TheVariants as status
 use Rattle.mm_lines.specs.Lines.{is_over, most_bytes}
 use Rattle.mm_job.specs.Output.{is_refusal, settled_lines}
+use Rattle.mm_job.specs.Settings.{Settings}
 use Rattle.mm_job.specs.declared.progress.JobFault.{JobFault}
 use Rattle.mm_job.specs.declared.progress.JobFault.TheVariants as fault
 use Rattle.mm_job.specs.declared.progress.Progress.{Progress}
 use Rattle.mm_job.specs.declared.progress.Progress.TheVariants.{More, Ended}
 use Rattle.mm_job.specs.declared.output_line.OutputLine.{OutputLine}
 
--- A job: the text so far, the limit on sizes, and whether it goes on.
+-- A job: the text so far, how it is asked, and whether it goes on.
 pub record JobValue : Type 0 where
   pub text : List ℕ
-  pub limit : ℕ
+  pub settings : Settings
   pub live : Bool
 
 -- A text with a piece more, cut after the first byte that is too many.
@@ -40,9 +41,9 @@ begins_refused [] = false
 begins_refused (first ∷ rest) = is_refusal first
 
 -- A job ends where what is there refuses its header, and where its text has more bytes than are used; else more may come.
-abbrev pub progress : List ℕ → ℕ → Progress
-progress text limit =
-    if begins_refused (settled_lines text limit) then Ended status.Refused
+abbrev pub progress : List ℕ → Settings → Progress
+progress text settings =
+    if begins_refused (settled_lines text settings) then Ended status.Refused
     else if is_over text then Ended status.EditRefused
     else More
 

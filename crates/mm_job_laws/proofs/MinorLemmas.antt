@@ -1,0 +1,95 @@
+-- Where the word `minor` asks a formula, the output says whether it holds, after each edit too.
+use Rattle.std.proofs.Common.{◌≡◌, ℕ, Bool, true, false, List, [], refl, sym, ap, subst, ◌∙◌}
+use Rattle.std.specs.Prelude.{Ok, Err, None, codes, if◌then◌else◌}
+use Rattle.std.specs.declared.result.Result.{Result}
+use Rattle.mm_edit.specs.Edits.{Applied}
+use Rattle.mm_field.specs.declared.Field.{Field}
+use Rattle.mm_formula.specs.Scope.{slotted}
+use Rattle.mm_formula.specs.Syntax.{Syntax}
+use Rattle.mm_job.specs.Edits.{Reply, Changed, Denied, block, changed, checked, compared_or, line_edit, replace_edit, single}
+use Rattle.mm_job.specs.Header.{Session, is_over_limit}
+use Rattle.mm_job.specs.Items.{Items, items}
+use Rattle.mm_job.specs.Meaning.{answer_line}
+use Rattle.mm_job.specs.Output.{after_reply, output_lines, reply_line}
+use Rattle.mm_job.specs.Settings.{Settings, with_formula}
+use Rattle.mm_job.specs.declared.output_line.OutputLine.{OutputLine}
+use Rattle.mm_job.specs.declared.output_line.OutputLine.TheVariants.{Says}
+use Rattle.mm_job_laws.specs.AnswerLaws.{ComesTo, HasLine, IsAnswer, IsSound, IsTruth}
+use Rattle.mm_job_laws.specs.MinorLaws.{IsDecided, MinorsAreDecided}
+use Rattle.mm_job_laws.proofs.AnswerLemmas.{headers_give_sessions, lines_are_answers, output_begins_with_answer}
+use Rattle.mm_job_laws.proofs.ItemLemmas.{block_line, compared_keeps, keeps, single_line}
+use Rattle.mm_job_text.specs.Arguments.{begins}
+use Rattle.mm_job_text.specs.declared.refusal.Refusal.{Refusal}
+use Rattle.mm_job_text.specs.declared.refusal.Refusal.TheVariants as refusal
+use Rattle.mm_lines.specs.Lines.{lines}
+use Rattle.mm_lines.specs.declared.line.Line.{Line}
+use Rattle.mm_logic.specs.Formula.{Formula}
+use Rattle.mm_logic.specs.StateSize.{Query}
+use Rattle.mm_logic.specs.StateSize.Query.{Decide}
+use Rattle.mm_tree.specs.NamedTree.{Tree}
+
+-- ---- the query stays
+
+changed_asks : (s : Session) (res : Result Applied Refusal) → (after_reply s (changed s res)).query ≡ s.query
+changed_asks s (Err e) = refl
+changed_asks s (Ok a) = go (is_over_limit s a.tree)
+  where
+    go : (over : Bool) → (after_reply s (if over then Denied refusal.States else Changed (record s { tree = a.tree }))).query ≡ s.query
+    go true = refl
+    go false = refl
+
+single_asks : (s : Session) (r : Line) → (after_reply s (single s r)).query ≡ s.query
+unfolding single
+single_asks s r = changed_asks s (line_edit s r)
+
+block_asks : (s : Session) (r : Line) (rs : List Line) → (after_reply s (block s r rs)).query ≡ s.query
+unfolding block
+block_asks s r rs = go (begins (codes "replace") r)
+  where
+    go : (b : Bool) → (after_reply s (if b then changed s (replace_edit s r rs) else compared_or (checked s r rs))).query ≡ s.query
+    go true = changed_asks s (replace_edit s r rs)
+    go false = ap (λ (t : Session). t.query) (compared_keeps s (checked s r rs))
+
+comes_asking : {s t : Session} {i j : Items} → ComesTo s i t j → t.query ≡ s.query
+comes_asking ComesTo.begun = refl
+comes_asking (ComesTo.after_line {t = t} {r = r} c) = single_asks t r ∙ comes_asking c
+comes_asking (ComesTo.after_block {t = t} {r = r} {rs = rs} c) = block_asks t r rs ∙ comes_asking c
+
+-- ---- lines
+
+truth_of : (f : Field) (query : Query) (F : Formula) (tree : Tree) (line : List ℕ) → query ≡ Decide F → IsAnswer f query tree line → IsTruth f F tree line
+truth_of f query F tree line is h = subst (λ (query : Query). IsAnswer f query tree line) is h
+
+-- an item that is done
+decided : (F : Formula) (t : Session) (reply : Reply) (output : List OutputLine) → IsSound (after_reply t reply) → (after_reply t reply).query ≡ Decide F
+    → HasLine (reply_line reply) output → IsDecided F reply output
+decided F t reply output sound asks has new is =
+    let same : after_reply t reply ≡ new = ap (after_reply t) is in
+    let valid = subst (λ (s : Session). IsSound s) same sound in
+    let decides : new.query ≡ Decide F = ap (λ (s : Session). s.query) (sym same) ∙ asks in
+    let line = answer_line new.f new.query new.tree in
+    let says : reply_line reply ≡ Says line = ap reply_line is in (
+      line,
+      truth_of new.f new.query F new.tree line decides (lines_are_answers new.f new.query new.tree valid.tree.valid_shape),
+      says,
+      subst (λ (l : OutputLine). HasLine l output) says has,
+    )
+
+pub minors_are_decided : MinorsAreDecided
+minors_are_decided limit F text rest s sorted read =
+    let settings : Settings = with_formula limit F in
+    let given = headers_give_sessions settings (lines text) rest s sorted read in
+    let asks : s.query ≡ Decide (slotted [] F) = given.0.asked.asks in
+    let begins = output_begins_with_answer settings text rest s sorted read in
+    record {
+      answer = begins.answer;
+      later = begins.later;
+      first = begins.first;
+      is_truth = truth_of s.f s.query (slotted [] F) s.tree begins.answer asks begins.is_answer;
+      singles = λ t r more comes.
+          decided (slotted [] F) t (single t r) (output_lines text settings) (keeps given.1 (ComesTo.after_line comes))
+          (comes_asking (ComesTo.after_line comes) ∙ asks) (single_line settings text rest s t r more read comes);
+      blocks = λ t r rs more comes.
+          decided (slotted [] F) t (block t r rs) (output_lines text settings) (keeps given.1 (ComesTo.after_block comes))
+          (comes_asking (ComesTo.after_block comes) ∙ asks) (block_line settings text rest s t r rs more read comes);
+    }
