@@ -122,7 +122,7 @@ pub fn read_query(alloc: Global, line: &Line) -> Result<Scoped, Stop>
     spelled_query(alloc, line)
 }
 
-/// Reads the query line of a text that asks a formula which is given: the word `minor`.
+/// Reads the query line of a text whose query is given: the word `minor`.
 #[tactic(auto, unfolding(crate::specs::Queries::minor_line))]
 pub fn read_minor(line: &Line) -> Result<(), Refusal>
     ensures { result ≡ whole minor_line line.now }

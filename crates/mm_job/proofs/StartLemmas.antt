@@ -9,13 +9,11 @@ use Rattle.mm_edit.specs.SessionValue.{SessionValue, kept_types}
 use Rattle.mm_edit.specs.declared.query.Query.{Query as Kind}
 use Rattle.mm_edit.specs.declared.query.Query.TheVariants as kind
 use Rattle.mm_field.specs.declared.Field.{Field}
-use Rattle.mm_formula.specs.Scope.{IsScoped, outermost, scope_fault, slotted}
-use Rattle.mm_formula.specs.Syntax.{Syntax, syntax_of}
-use Rattle.mm_formula.specs.declared.scope.Scoped.{Scoped}
-use Rattle.mm_formula.specs.declared.scope.ScopeFault.{ScopeFault}
+use Rattle.mm_formula.specs.Scope.{IsScoped, outermost, slotted}
+use Rattle.mm_formula.specs.Syntax.{Syntax}
 use Rattle.mm_formula.proofs.SlotLemmas.{scoped_sorted}
 use Rattle.mm_header.specs.Header.{Parts, matched}
-use Rattle.mm_header.specs.Queries.{Question, minor_line, minor_query, query_for, query_line, scope_refusal, scoped}
+use Rattle.mm_header.specs.Queries.{Question, minor_line, minor_query, query_for, query_line}
 use Rattle.mm_header.specs.Queries.Question.{Spelled, Minor}
 use Rattle.mm_header.specs.QueryValues.{query_value}
 use Rattle.mm_header.specs.State.HeaderStates.{IsHeader, header_value}
@@ -23,7 +21,6 @@ use Rattle.mm_header.specs.declared.state.HeaderData.{HeaderData}
 use Rattle.mm_job.specs.Header.{Session, after_parts, is_over_limit, query_part, session_part, started}
 use Rattle.mm_job.specs.Items.{items}
 use Rattle.mm_job.specs.Settings.{Settings}
-use Rattle.mm_job.specs.State.Questions.{Asks}
 use Rattle.mm_job.specs.State.Replies.{Begins, Begun, SpendsStart, Starts}
 use Rattle.mm_job.specs.Output.{Ending, answered, lines_after_header, lines_of_items}
 use Rattle.mm_job.specs.State.Sessions.{IsEditor, kept_of, kind_by, session_of, session_with}
@@ -35,7 +32,7 @@ use Rattle.mm_job.proofs.EditLemmas.{IsFit, is_over, members_are, not_over}
 use Rattle.mm_job.proofs.WorkLemmas.{items_same}
 use Rattle.mm_job_text.specs.Arguments.{too_long}
 use Rattle.mm_job_text.specs.Becoming.{Becomes, Goes, Reads}
-use Rattle.mm_job_text.specs.Checks.{◌>>=◌, ◌>>◌, require, unless}
+use Rattle.mm_job_text.specs.Checks.{◌>>=◌, ◌>>◌, require}
 use Rattle.mm_job_text.specs.Readers.{Reader, Reading, Read, Refused, and_then, now, refused_or, whole}
 use Rattle.mm_job_text.specs.declared.refusal.Refusal.{Refusal}
 use Rattle.mm_job_text.specs.declared.refusal.Refusal.TheVariants as refusal
@@ -230,39 +227,34 @@ refused_stops settings p line why steps is =
     refused_starts (query_part settings p) (line ∷ []) why steps
     (λ rs. ap (λ (x : Result Query Refusal). and_then (now x rs) (session_part settings.limit p)) is)
 
--- the formula that is given has no fault
-minor_is : (n : ℕ) (long : Option Refusal) (word : Result (Unit {0}) Refusal) (fault : Option ScopeFault) (Q : Query) → refused_or long word ≡ Ok tt → fault ≡ None
-    → refused_or long (word >> (unless (scope_refusal n fault) >> Ok Q)) ≡ Ok Q
-minor_is n None (Ok u) fault Q h none = ap (λ (f : Option ScopeFault). unless (scope_refusal n f) >> Ok Q) none
-minor_is n None (Err e) fault Q h none = absurd (let x : Err e ≡ Ok tt = h in cc)
-minor_is n (Some e) word fault Q h none = absurd (let x : Err e ≡ Ok tt = h in cc)
+abbrev error_or : {A : Type 0} → Refusal → Result A Refusal → Refusal
+error_or e (Ok x) = e
+error_or e (Err why) = why
 
-minor_gives : (line : Line) (F : Syntax) → whole minor_line line ≡ Ok tt → scope_fault F None ≡ None → whole (query_line (Minor F)) line ≡ Ok (query_for None F)
+minor_is : (long : Option Refusal) (word : Result (Unit {0}) Refusal) (Q : Query) → refused_or long word ≡ Ok tt → refused_or long (word >> Ok Q) ≡ Ok Q
+minor_is None (Ok u) Q h = refl
+minor_is None (Err e) Q h = absurd (let x : Err e ≡ Ok tt = h in cc)
+minor_is (Some e) word Q h = absurd (let x : Err e ≡ Ok tt = h in cc)
+
+-- the word stands for the query that is given
+pub given_asked : (settings : Settings) (Q : Query) (line : Line) → settings.question ≡ Minor Q → whole minor_line line ≡ Ok tt
+    → whole (query_line settings.question) line ≡ Ok Q
 unfolding minor_query
-minor_gives line F h none = minor_is line.number (too_long line.text line.number) (minor_line line) (scope_fault F None) (query_for None F) h none
+given_asked settings Q line is h =
+    ap (λ (question : Question). whole (query_line question) line) is ∙ minor_is (too_long line.text line.number) (minor_line line) Q h
 
--- the word asks the query that is given
-pub given_asked : (settings : Settings) (q : Scoped) (line : Line) → Asks settings q → whole minor_line line ≡ Ok tt
-    → whole (query_line settings.question) line ≡ Ok (query_value q)
-given_asked settings q line asks h =
-    ap (λ (question : Question). whole (query_line question) line) asks.question ∙ minor_gives line (syntax_of q.formula) h asks.scoped
-    ∙ ap (λ (v : Option (List ℕ)). Ok (query_for v (syntax_of q.formula))) (sym asks.closed)
-
-not_minor : (long : Option Refusal) (word : Result (Unit {0}) Refusal) (why : Refusal) (rest : Result Query Refusal) → refused_or long word ≡ Err why
-    → refused_or long (word >> rest) ≡ Err why
-not_minor None (Ok u) why rest h = absurd (let x : Ok u ≡ Err why = h in cc)
-not_minor None (Err e) why rest h = ap (λ (x : Refusal). Err x) (let x : Err {A = Unit {0}} e ≡ Err why = h in cc)
-not_minor (Some e) word why rest h = ap (λ (x : Refusal). Err x) (let x : Err {A = Unit {0}} e ≡ Err why = h in cc)
-
-minor_refused : (line : Line) (F : Syntax) (why : Refusal) → whole minor_line line ≡ Err why → whole (query_line (Minor F)) line ≡ Err why
-unfolding minor_query
-minor_refused line F why h = not_minor (too_long line.text line.number) (minor_line line) why (scoped line.number None F) h
+not_minor : (long : Option Refusal) (word : Result (Unit {0}) Refusal) (why : Refusal) (Q : Query) → refused_or long word ≡ Err why
+    → refused_or long (word >> Ok Q) ≡ Err why
+not_minor None (Ok u) why Q h = absurd (let x : Ok u ≡ Err why = h in cc)
+not_minor None (Err e) why Q h = ap (λ (x : Refusal). Err x) (ap (error_or why) h)
+not_minor (Some e) word why Q h = ap (λ (x : Refusal). Err x) (ap (error_or why) h)
 
 -- another line is refused
-pub given_refused : (settings : Settings) (q : Scoped) (line : Line) (why : Refusal) → Asks settings q → whole minor_line line ≡ Err why
+pub given_refused : (settings : Settings) (Q : Query) (line : Line) (why : Refusal) → settings.question ≡ Minor Q → whole minor_line line ≡ Err why
     → whole (query_line settings.question) line ≡ Err why
-given_refused settings q line why asks h =
-    ap (λ (question : Question). whole (query_line question) line) asks.question ∙ minor_refused line (syntax_of q.formula) why h
+unfolding minor_query
+given_refused settings Q line why is h =
+    ap (λ (question : Question). whole (query_line question) line) is ∙ not_minor (too_long line.text line.number) (minor_line line) why Q h
 
 -- a line of a text whose query line spells its query
 pub spelled_read : (settings : Settings) (line : Line) (read : Result Query Refusal) → settings.question ≡ Spelled → whole (query_line Spelled) line ≡ read

@@ -1,4 +1,5 @@
 -- What a job is to its callers.
+use Rattle.std.proofs.Common.{refl}
 use Rattle.std.specs.Prelude.{◌≡◌, ℕ, ◌+◌, ◌≤◌, Bool, true, false, List, [], ◌∷◌, ◌++◌, take, Option, Ok, Err, IsErrOf, if◌then◌else◌}
 use Rattle.std.specs.Io.KnownBytes.{Appends}
 use Rattle.std.specs.declared.result.Result.{Result}
@@ -6,7 +7,8 @@ use Rattle.mm_base.specs.Causes.{GrowsByFront, Rose}
 use Rattle.mm_base.specs.declared.status.Status.TheVariants as status
 use Rattle.mm_lines.specs.Lines.{is_over, most_bytes}
 use Rattle.mm_job.specs.Output.{is_refusal, settled_lines}
-use Rattle.mm_job.specs.Settings.{Settings}
+use Rattle.mm_job.specs.Settings.{Settings, settings_code}
+use Rattle.std.specs.Coded.{Coded, code_by, coded×, coded_ℕ, coded_bool, coded_list}
 use Rattle.mm_job.specs.declared.progress.JobFault.{JobFault}
 use Rattle.mm_job.specs.declared.progress.JobFault.TheVariants as fault
 use Rattle.mm_job.specs.declared.progress.Progress.{Progress}
@@ -18,6 +20,12 @@ pub record JobValue : Type 0 where
   pub text : List ℕ
   pub settings : Settings
   pub live : Bool
+
+-- How jobs are told apart.
+abbrev pub job_code : Coded JobValue
+job_code =
+    code_by (List ℕ × (Settings × Bool)) (coded× (coded_list coded_ℕ) (coded× settings_code coded_bool)) (λ j. (j.text, (j.settings, j.live)))
+    (λ p. record { text = p.0; settings = p.1.0; live = p.1.1 }) (λ j. refl)
 
 -- A text with a piece more, cut after the first byte that is too many.
 abbrev pub with_piece : List ℕ → List ℕ → List ℕ

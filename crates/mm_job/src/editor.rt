@@ -5,10 +5,9 @@ ghost use Rattle.mm_edit.specs.declared.fault.EditFault.{EditFault as FaultOf};
 ghost use Rattle.mm_header.specs.QueryValues.{query_value};
 ghost use Rattle.mm_header.specs.State.HeaderStates.{IsHeader, header_value};
 ghost use Rattle.mm_job.specs.Edits.{another_weight, exchanged, replaced_path};
-ghost use Rattle.mm_header.specs.Queries.Question.{Spelled};
+ghost use Rattle.mm_header.specs.Queries.Question.{Minor, Spelled};
 ghost use Rattle.mm_job.specs.Header.{query_part, session_part};
 ghost use Rattle.mm_job.specs.Output.{answered};
-ghost use Rattle.mm_job.specs.State.Questions.{Asks};
 ghost use Rattle.mm_job.specs.State.Replies.{RepliesToEdit, SpendsEdit, Starts, answer_text, edit_stop};
 ghost use Rattle.mm_job.specs.State.Sessions.{IsEditor, session_of};
 ghost use Rattle.mm_job.specs.declared.output_line.OutputLine.TheVariants.{Refuses, Says};
@@ -302,7 +301,7 @@ fn start_spelled<L: Ledger>(
     }
 }
 
-/// Takes the query line, where the word `minor` asks this query.
+/// Takes the query line, where the word `minor` stands for this query.
 fn start_given<L: Ledger>(
     alloc: Global,
     settings: &Settings,
@@ -314,7 +313,7 @@ fn start_given<L: Ledger>(
 ) -> Result<Editor, Stop>
     requires header { IsHeader header }
     requires tree { tree.f ≡ header.field }
-    requires given { Asks settings.now query.now }
+    requires given { settings.now.question ≡ Minor (query_value query.now) }
     ensures { Starts (query_part settings.now (header_value header, tree.tree)) (line.now ∷ []) result steps.old steps.new }
 {
     match read_minor(line) {

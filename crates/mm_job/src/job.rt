@@ -23,9 +23,11 @@ pub struct Job {
 }
 
 impl Model for Job {
-    ghost use Rattle.mm_job.specs.Jobs.{JobValue};
+    ghost use Rattle.mm_job.specs.Jobs.{JobValue, job_code};
 
     ghost Value = { JobValue };
+
+    ghost coded = { job_code };
 
     ghost use Rattle.mm_job.specs.State.Kept.{IsJob, state_of};
 

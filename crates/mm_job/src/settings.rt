@@ -7,14 +7,16 @@ use std::marker::Model;
 #[derive(Drop)]
 pub struct Settings {
     limit: u64,
-    /// The formula that the query line `minor` asks; without one the line spells its query.
+    /// The query that the word `minor` stands for as the query line; without one the line spells its query.
     given: Option<Scoped>,
 }
 
 impl Model for Settings {
-    ghost use Rattle.mm_job.specs.Settings.{Settings as SettingsOf};
+    ghost use Rattle.mm_job.specs.Settings.{Settings as SettingsOf, settings_code};
 
     ghost Value = { SettingsOf };
+
+    ghost coded = { settings_code };
 
     ghost use Rattle.mm_job.specs.State.Questions.{AreSettings, settings_of};
 
@@ -27,9 +29,9 @@ impl Settings {
     ghost use Rattle.std.specs.Prelude.{◌≡◌, ◌≤◌, true, None, IfNone, IfSome};
     ghost use Rattle.mm_formula.specs.Scope.{scope_fault};
     ghost use Rattle.mm_formula.specs.Syntax.{is_well_sorted, syntax_of};
-    ghost use Rattle.mm_header.specs.Queries.Question.{Spelled};
+    ghost use Rattle.mm_header.specs.Queries.Question.{Minor, Spelled};
+    ghost use Rattle.mm_header.specs.QueryValues.{query_value};
     ghost use Rattle.mm_job.specs.Settings.{spelled, with_formula};
-    ghost use Rattle.mm_job.specs.State.Questions.{Asks};
     ghost use Rattle.mm_nodes.specs.declared.TheConstants.{MAX_LIMIT};
 
     /// The query line spells the query.
@@ -64,10 +66,10 @@ impl Settings {
         self.limit
     }
 
-    /// The formula that the query line `minor` asks, where it does.
+    /// The query that the word `minor` stands for as the query line, where it does.
     pub fn given(&self) -> Option<&Scoped>
         ensures spelled { IfNone result (self.now.question ≡ Spelled) }
-        ensures given { IfSome result (λ query. Asks self.now query.now) }
+        ensures given { IfSome result (λ query. self.now.question ≡ Minor (query_value query.now)) }
     {
         self.given.as_ref()
     }

@@ -12,7 +12,7 @@ use Rattle.mm_job.specs.Items.{items}
 use Rattle.mm_job.specs.Meaning.{answer_line, least_line, truth_line}
 use Rattle.mm_job.specs.Output.{Ended, ending, lines_after_header, lines_of_items, output_lines, written_lines}
 use Rattle.mm_job.specs.Settings.{Settings}
-use Rattle.mm_job_laws.specs.AnswerLaws.{AnswerLinesAreAnswers, Asks, Gives, HeadersGiveSessions, HoldsOn, IsLeast, IsOfScoped, IsSorted, IsSound, IsTruth, OutputBeginsWithAnswer}
+use Rattle.mm_job_laws.specs.AnswerLaws.{AnswerLinesAreAnswers, Asks, Gives, HeadersGiveSessions, HoldsOn, IsAsked, IsLeast, IsOfScoped, IsSound, IsTruth, OutputBeginsWithAnswer}
 use Rattle.mm_job_laws.specs.HeaderLaws.{given_of, session_of}
 use Rattle.mm_job_laws.proofs.AgreementLemmas.{same_exactly_where_they_agree}
 use Rattle.mm_job_laws.proofs.QueryLemmas.{minor_asks, whole_spells}
@@ -58,13 +58,13 @@ lines_are_answers f (Least F) tree ok = least_is_meant f F tree (least f F (shap
 -- ---- query lines
 
 -- a line that gives a query asks it
-line_asks : (question : Question) (r : Line) (query : Query) → IsSorted question → whole (query_line question) r ≡ Ok query → Asks question r query
-line_asks Spelled r query sorted h = whole_spells r query h
-line_asks (Minor F) r query sorted h = minor_asks F r query sorted h
+line_asks : (question : Question) (r : Line) (query : Query) → whole (query_line question) r ≡ Ok query → Asks question r query
+line_asks Spelled r query h = whole_spells r query h
+line_asks (Minor given) r query h = minor_asks given r query h
 
-asked_scoped : (question : Question) (r : Line) (query : Query) → Asks question r query → IsOfScoped query
-asked_scoped Spelled r query h = record { sought = h.sought; formula = h.formula; scoped = h.scoped; asks = h.asks }
-asked_scoped (Minor F) r query h = record { sought = None; formula = F; scoped = h.scoped; asks = h.asks }
+asked_scoped : (question : Question) (r : Line) (query : Query) → IsAsked question → Asks question r query → IsOfScoped query
+asked_scoped Spelled r query asked h = record { sought = h.sought; formula = h.formula; scoped = h.scoped; asks = h.asks }
+asked_scoped (Minor given) r query asked h = subst (λ (q : Query). IsOfScoped q) (sym h.1) asked
 
 -- ---- headers
 
@@ -105,11 +105,11 @@ started_is settings p r rest others s (Ok query) q h = go (compared p.0.f (given
     go (verdict.Present j) e h = let x : Refused (refusal.Present j) ≡ Read s others = h in absurd (cc)
     go verdict.Same e h = begun (not (is_over_limit (session_of settings.limit p query) p.1)) e h
 
-gives : (settings : Settings) (rs : List Line) (p : Parts) (r : Line) (rest others : List Line) (s : Session) → IsSorted settings.question → parts job_rules rs ≡ Read p (r ∷ rest) →
+gives : (settings : Settings) (rs : List Line) (p : Parts) (r : Line) (rest others : List Line) (s : Session) → IsAsked settings.question → parts job_rules rs ≡ Read p (r ∷ rest) →
     Started settings p r rest others s → Gives settings rs others s × IsSound s
-gives settings rs p r rest others s sorted e h =
+gives settings rs p r rest others s given e h =
     let sound = lines_are_sound job_rules rs (r ∷ rest) p e in
-    let asked = line_asks settings.question r h.query sorted h.read in
+    let asked = line_asks settings.question r h.query h.read in
     let query : h.query ≡ s.query = sym (ap (λ (t : Session). t.query) h.session) in
     let same =
     same_exactly_where_they_agree p.0.f (given_of p) p.1 sound.tree.valid_shape (different_elements p.1 sound.tree.different) sound.different sound.vectors in (
@@ -126,29 +126,29 @@ gives settings rs p r rest others s sorted e h =
           (record {
             ops = sound.ops;
             tree = sound.tree;
-            query = asked_scoped settings.question r h.query asked;
+            query = asked_scoped settings.question r h.query given asked;
           }),
     )
 
-from_parts : (settings : Settings) (rs rest : List Line) (s : Session) (reading : Reading Parts) → IsSorted settings.question → parts job_rules rs ≡ reading →
+from_parts : (settings : Settings) (rs rest : List Line) (s : Session) (reading : Reading Parts) → IsAsked settings.question → parts job_rules rs ≡ reading →
     and_then (and_then reading (query_part settings)) (λ s. now (started s)) ≡ Read s rest → Gives settings rs rest s × IsSound s
 unfolding query_part session_part
-from_parts settings rs rest s (Refused why) sorted e h = let x : Refused why ≡ Read s rest = h in absurd (cc)
-from_parts settings rs rest s Short sorted e h = let x : Short ≡ Read s rest = h in absurd (cc)
-from_parts settings rs rest s (Read p []) sorted e h = let x : Short ≡ Read s rest = h in absurd (cc)
-from_parts settings rs rest s (Read p (r ∷ others)) sorted e h =
-    gives settings rs p r others rest s sorted e (started_is settings p r others rest s (whole (query_line settings.question) r) refl h)
+from_parts settings rs rest s (Refused why) given e h = let x : Refused why ≡ Read s rest = h in absurd (cc)
+from_parts settings rs rest s Short given e h = let x : Short ≡ Read s rest = h in absurd (cc)
+from_parts settings rs rest s (Read p []) given e h = let x : Short ≡ Read s rest = h in absurd (cc)
+from_parts settings rs rest s (Read p (r ∷ others)) given e h =
+    gives settings rs p r others rest s given e (started_is settings p r others rest s (whole (query_line settings.question) r) refl h)
 
 pub headers_give_sessions : HeadersGiveSessions
 unfolding header header_lines
-headers_give_sessions settings rs rest s sorted h = from_parts settings rs rest s (parts job_rules rs) sorted refl h
+headers_give_sessions settings rs rest s given h = from_parts settings rs rest s (parts job_rules rs) given refl h
 
 -- ---- outputs
 
 pub output_begins_with_answer : OutputBeginsWithAnswer
 unfolding output_lines written_lines
-output_begins_with_answer settings text rest s sorted h =
-    let sound = (headers_give_sessions settings (lines text) rest s sorted h).1 in
+output_begins_with_answer settings text rest s given h =
+    let sound = (headers_give_sessions settings (lines text) rest s given h).1 in
     record {
       answer = answer_line s.f s.query s.tree;
       later = lines_of_items (ending Ended text) s (items rest);

@@ -30,15 +30,15 @@ use Rattle.mm_tree.specs.NamedTree.{Tree}
 -- ---- edits
 
 pub output_answers_weights : OutputAnswersWeights
-output_answers_weights settings text rest s t r name weight more sorted read comes h =
-    let sound = (headers_give_sessions settings (lines text) rest s sorted read).1 in (
+output_answers_weights settings text rest s t r name weight more asked read comes h =
+    let sound = (headers_give_sessions settings (lines text) rest s asked read).1 in (
       weights_are_answered t r name weight (keeps sound comes) h,
       single_line settings text rest s t r more read comes,
     )
 
 pub output_answers_replacements : OutputAnswersReplacements
-output_answers_replacements settings text rest s t r rs path new more sorted read comes h =
-    let sound = (headers_give_sessions settings (lines text) rest s sorted read).1 in (
+output_answers_replacements settings text rest s t r rs path new more asked read comes h =
+    let sound = (headers_give_sessions settings (lines text) rest s asked read).1 in (
       replacements_are_answered t r rs path new (keeps sound comes) h,
       block_line settings text rest s t r rs more read comes,
     )

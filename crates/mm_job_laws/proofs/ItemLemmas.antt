@@ -314,8 +314,8 @@ block_line settings text rest s t r rs more read comes =
     )
 
 pub output_answers_checks : OutputAnswersChecks
-output_answers_checks settings text rest s t r rs given more sorted read comes check =
-    let sound = (headers_give_sessions settings (lines text) rest s sorted read).1 in (
+output_answers_checks settings text rest s t r rs given more asked read comes check =
+    let sound = (headers_give_sessions settings (lines text) rest s asked read).1 in (
       reply_line (block t r rs),
       checks_are_answered t r rs given (keeps sound comes) check,
       block_line settings text rest s t r rs more read comes,

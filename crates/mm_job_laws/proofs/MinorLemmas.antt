@@ -14,7 +14,7 @@ use Rattle.mm_job.specs.Output.{after_reply, output_lines, reply_line}
 use Rattle.mm_job.specs.Settings.{Settings, with_formula}
 use Rattle.mm_job.specs.declared.output_line.OutputLine.{OutputLine}
 use Rattle.mm_job.specs.declared.output_line.OutputLine.TheVariants.{Says}
-use Rattle.mm_job_laws.specs.AnswerLaws.{ComesTo, HasLine, IsAnswer, IsSound, IsTruth}
+use Rattle.mm_job_laws.specs.AnswerLaws.{ComesTo, HasLine, IsAnswer, IsAsked, IsSound, IsTruth}
 use Rattle.mm_job_laws.specs.MinorLaws.{IsDecided, MinorsAreDecided}
 use Rattle.mm_job_laws.proofs.AnswerLemmas.{headers_give_sessions, lines_are_answers, output_begins_with_answer}
 use Rattle.mm_job_laws.proofs.ItemLemmas.{block_line, compared_keeps, keeps, single_line}
@@ -76,11 +76,12 @@ decided F t reply output sound asks has new is =
     )
 
 pub minors_are_decided : MinorsAreDecided
-minors_are_decided limit F text rest s sorted read =
+minors_are_decided limit F text rest s scoped read =
     let settings : Settings = with_formula limit F in
-    let given = headers_give_sessions settings (lines text) rest s sorted read in
-    let asks : s.query ≡ Decide (slotted [] F) = given.0.asked.asks in
-    let begins = output_begins_with_answer settings text rest s sorted read in
+    let asked : IsAsked settings.question = record { sought = None; formula = F; scoped = scoped; asks = refl } in
+    let given = headers_give_sessions settings (lines text) rest s asked read in
+    let asks : s.query ≡ Decide (slotted [] F) = given.0.asked.1 in
+    let begins = output_begins_with_answer settings text rest s asked read in
     record {
       answer = begins.answer;
       later = begins.later;

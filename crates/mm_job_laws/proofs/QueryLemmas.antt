@@ -7,7 +7,7 @@ use Rattle.std.specs.Str.{bytes_eq}
 use Rattle.std.proofs.lemmas.Bool.{le-leb, le-ltb, leb-true}
 use Rattle.mm_base.proofs.NameLemmas.{same_bytes}
 use Rattle.mm_formula.specs.Scope.{IsScoped, fault_of, outermost, scope_fault}
-use Rattle.mm_formula.specs.Syntax.{Syntax, is_well_sorted}
+use Rattle.mm_formula.specs.Syntax.{Syntax}
 use Rattle.mm_formula.specs.Variables.{is_set, is_var}
 use Rattle.std.proofs.lemmas.Option.{none-some, same_Some}
 use Rattle.mm_formula.proofs.ScopeLemmas.{scoped}
@@ -20,9 +20,9 @@ use Rattle.mm_formula_text.proofs.TextLemmas.{sorted}
 use Rattle.mm_header.proofs.FormulaLemmas.{derived_formula}
 use Rattle.mm_header.specs.Queries.{first_of, formula_of, least_query, minor_line, minor_query, most_formula, query_for, query_line, query_of, scope_refusal, set_variable_of, spelled_query}
 use Rattle.mm_header.specs.Queries.Question.{Spelled, Minor}
-use Rattle.mm_job_laws.specs.AnswerLaws.{IsMinor, QueryLinesGiveWhatTheySpell, Seeks, Spells, formula_text}
+use Rattle.mm_job_laws.specs.AnswerLaws.{QueryLinesGiveWhatTheySpell, Seeks, Spells, formula_text}
 use Rattle.mm_job_text.specs.Arguments.{args, begins, first_is, too_long}
-use Rattle.mm_job_text.specs.Checks.{◌>>◌, unless}
+use Rattle.mm_job_text.specs.Checks.{◌>>◌}
 use Rattle.mm_job_text.specs.Readers.{refused_or, whole}
 use Rattle.mm_job_text.specs.declared.refusal.Limit.TheVariants as limit
 use Rattle.mm_job_text.specs.declared.refusal.Refusal.{Refusal}
@@ -132,23 +132,16 @@ line_spells r = go (begins (codes "decide") r) (begins (codes "least") r) refl r
     go false true p q = least_spells r q
     go false false p q = tt
 
--- the word `minor`, where it gives the query of a formula
-pub minor_asks : (F : Syntax) (r : Line) (query : Query) → is_well_sorted F ≡ true → whole (query_line (Minor F)) r ≡ Ok query → IsMinor F r query
+-- the word `minor`, where it gives a query
+pub minor_asks : (given : Query) (r : Line) (query : Query) → whole (query_line (Minor given)) r ≡ Ok query → (whole minor_line r ≡ Ok tt) × (query ≡ given)
 unfolding minor_query
-minor_asks F r query sorted h = go (too_long r.text r.number) (minor_line r) (scope_refusal r.number (scope_fault F None)) refl refl refl h
+minor_asks given r query h = go (too_long r.text r.number) (minor_line r) h
   where
-    go : (long : Option Refusal) (word : Result (Unit {0}) Refusal) (why : Option Refusal) → too_long r.text r.number ≡ long → minor_line r ≡ word
-        → scope_refusal r.number (scope_fault F None) ≡ why → refused_or long (word >> (unless why >> Ok (query_for None F))) ≡ Ok query → IsMinor F r query
-    go (Some e) word why p q w h = let x : Err e ≡ Ok query = h in absurd (cc)
-    go None (Err e) why p q w h = let x : Err e ≡ Ok query = h in absurd (cc)
-    go None (Ok u) (Some e) p q w h = let x : Err e ≡ Ok query = h in absurd (cc)
-    go None (Ok u) None p q w h =
-        let x : Ok (query_for None F) ≡ Ok query = h in
-        record {
-          word = ap (λ (o : Option Refusal). refused_or o (minor_line r)) p ∙ q;
-          scoped = scoped F None sorted refl (no_fault r.number F None w);
-          asks = cc;
-        }
+    go : (long : Option Refusal) (word : Result (Unit {0}) Refusal) → refused_or long (word >> Ok given) ≡ Ok query
+        → (refused_or long word ≡ Ok tt) × (query ≡ given)
+    go (Some e) word h = let x : Err e ≡ Ok query = h in absurd (cc)
+    go None (Err e) h = let x : Err e ≡ Ok query = h in absurd (cc)
+    go None (Ok u) h = let x : Ok given ≡ Ok query = h in (refl, cc)
 
 pub whole_spells : (r : Line) (query : Query) → whole (query_line Spelled) r ≡ Ok query → Spells r query
 whole_spells r query h = go (too_long r.text r.number) (spelled_query r) (line_spells r) h

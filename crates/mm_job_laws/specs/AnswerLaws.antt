@@ -5,7 +5,7 @@ use Rattle.std.specs.Str.{bytes_eq}
 use Rattle.mm_field.specs.declared.Field.{Field}
 use Rattle.mm_field.specs.Vectors.{AreVectors, IsWithin}
 use Rattle.mm_formula.specs.Scope.{IsScoped}
-use Rattle.mm_formula.specs.Syntax.{Syntax, is_well_sorted}
+use Rattle.mm_formula.specs.Syntax.{Syntax}
 use Rattle.mm_formula.specs.Variables.{is_var}
 use Rattle.mm_formula_text.specs.Grammar.{IsTextOf}
 use Rattle.mm_header.specs.Header.{Parts, parts}
@@ -110,21 +110,15 @@ pub record IsOfScoped (query : Query) : Type 0 where
   pub scoped : IsScoped formula sought
   pub asks : query ≡ query_for sought formula
 
--- The word `minor` asks a formula that is scoped.
-pub record IsMinor (F : Syntax) (r : Line) (query : Query) : Type 0 where
-  pub word : whole minor_line r ≡ Ok tt
-  pub scoped : IsScoped F None
-  pub asks : query ≡ query_for None F
-
--- A line asks a query: it spells it, or it is the word for the formula that is given.
+-- A line asks a query: it spells it, or it is the word `minor`, which stands for a query that is given.
 abbrev pub Asks : Question → Line → Query → Type 0
 Asks Spelled r query = Spells r query
-Asks (Minor F) r query = IsMinor F r query
+Asks (Minor given) r query = (whole minor_line r ≡ Ok tt) × (query ≡ given)
 
--- In a formula that is given, element variables stand where elements are spoken of, and set variables where sets are.
-abbrev pub IsSorted : Question → Type 0
-IsSorted Spelled = Unit {0}
-IsSorted (Minor F) = is_well_sorted F ≡ true
+-- A query that is given is that of a scoped formula.
+abbrev pub IsAsked : Question → Type 0
+IsAsked Spelled = Unit {0}
+IsAsked (Minor given) = IsOfScoped given
 
 -- A session is sound where its operators and its tree are valid over its field, and its query is that of a scoped formula.
 pub record IsSound (s : Session) : Type 0 where
@@ -146,7 +140,7 @@ pub record Gives (settings : Settings) (rs rest : List Line) (s : Session) : Typ
 -- Where a header is read, its lines give the session, which is sound.
 abbrev pub HeadersGiveSessions : Type 0
 HeadersGiveSessions =
-    (settings : Settings) (rs rest : List Line) (s : Session) → IsSorted settings.question → header settings rs ≡ Read s rest
+    (settings : Settings) (rs rest : List Line) (s : Session) → IsAsked settings.question → header settings rs ≡ Read s rest
     → Gives settings rs rest s × IsSound s
 
 -- some lines begin with the answer to the query of a session
@@ -159,7 +153,7 @@ pub record BeginsWithAnswer (s : Session) (output : List OutputLine) : Type 0 wh
 -- Where the header of a text is read, the first line of its output answers the query.
 abbrev pub OutputBeginsWithAnswer : Type 0
 OutputBeginsWithAnswer =
-    (settings : Settings) (text : List ℕ) (rest : List Line) (s : Session) → IsSorted settings.question → header settings (lines text) ≡ Read s rest
+    (settings : Settings) (text : List ℕ) (rest : List Line) (s : Session) → IsAsked settings.question → header settings (lines text) ≡ Read s rest
     → BeginsWithAnswer s (output_lines text settings)
 
 -- ---- how given rows differ from a tree
@@ -305,5 +299,5 @@ HasLine line output = (before after : List OutputLine) × (output ≡ before ++ 
 abbrev pub OutputAnswersChecks : Type 0
 OutputAnswersChecks =
     (settings : Settings) (text : List ℕ) (rest : List Line) (s t : Session) (r : Line) (rs : List Line) (given : Named) (more : Items)
-    → IsSorted settings.question → header settings (lines text) ≡ Read s rest → ComesTo s (items rest) t (Block r rs more) → IsCheck t r rs given
+    → IsAsked settings.question → header settings (lines text) ≡ Read s rest → ComesTo s (items rest) t (Block r rs more) → IsCheck t r rs given
     → (line : OutputLine) × IsComparison t given line × HasLine line (output_lines text settings)

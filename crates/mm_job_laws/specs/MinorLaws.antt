@@ -1,7 +1,7 @@
 -- What the output of a job says where the word `minor` asks a formula.
-use Rattle.std.specs.Prelude.{◌≡◌, ℕ, true, List, [], ◌∷◌}
-use Rattle.mm_formula.specs.Scope.{slotted}
-use Rattle.mm_formula.specs.Syntax.{Syntax, is_well_sorted}
+use Rattle.std.specs.Prelude.{◌≡◌, ℕ, List, [], ◌∷◌, None}
+use Rattle.mm_formula.specs.Scope.{IsScoped, slotted}
+use Rattle.mm_formula.specs.Syntax.{Syntax}
 use Rattle.mm_job.specs.Edits.{Reply, Changed, block, single}
 use Rattle.mm_job.specs.Header.{Session, header}
 use Rattle.mm_job.specs.Items.{Items, Single, Block, items}
@@ -33,6 +33,6 @@ pub record AreDecided (F : Formula) (s : Session) (rest : List Line) (output : L
 -- Where the word `minor` asks a formula and the header is read, the output says whether the formula holds, after each edit too.
 abbrev pub MinorsAreDecided : Type 0
 MinorsAreDecided =
-    (limit : ℕ) (F : Syntax) (text : List ℕ) (rest : List Line) (s : Session) → is_well_sorted F ≡ true
+    (limit : ℕ) (F : Syntax) (text : List ℕ) (rest : List Line) (s : Session) → IsScoped F None
     → header (with_formula limit F) (lines text) ≡ Read s rest
     → AreDecided (slotted [] F) s rest (output_lines text (with_formula limit F))
