@@ -1,0 +1,3 @@
+pub mod MinorFormula
+pub mod Minors
+pub mod Contractions
