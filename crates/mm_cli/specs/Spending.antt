@@ -6,11 +6,12 @@ use Rattle.mm_job.specs.Jobs.{JobValue}
 use Rattle.mm_job.specs.Work.{bound_of, settled_work}
 use Rattle.mm_job.specs.Settings.{Settings, spelled}
 use Rattle.mm_cli.specs.Answers.{sample_job}
+use Rattle.mm_cli.specs.Minors.{minor_settings}
 use Rattle.mm_cli.specs.Words.{most_limit}
 use Rattle.mm_cli.specs.declared.reading.ReadStep.{ReadStep}
 use Rattle.mm_cli.specs.declared.reading.ReadStep.TheVariants as step
 use Rattle.mm_cli.specs.declared.words.Command.{Command}
-use Rattle.mm_cli.specs.declared.words.Command.TheVariants.{Run, Sample, Build, Dual, NotBuilt}
+use Rattle.mm_cli.specs.declared.words.Command.TheVariants.{Run, Sample, Build, Dual, Minor, NotBuilt}
 
 -- At most as many steps as the bound on the work of a job.
 abbrev pub IsWithinBound : (text : List ℕ) → (settings : Settings) → (steps steps_new : ℕ) → Type 0
@@ -26,6 +27,7 @@ Spends (Some (Run limit)) left steps steps_new = SpendsOnJob (spelled limit) lef
 Spends (Some (Sample s)) left steps steps_new = IsWithinBound (sample_job s) (spelled most_limit) steps steps_new
 Spends (Some Build) left steps steps_new = steps_new ≡ steps
 Spends (Some Dual) left steps steps_new = steps_new ≡ steps
+Spends (Some (Minor m)) left steps steps_new = SpendsOnJob (minor_settings m) left steps steps_new
 Spends (Some NotBuilt) left steps steps_new = steps_new ≡ steps
 Spends None left steps steps_new = steps_new ≡ steps
 

@@ -114,7 +114,7 @@ fn read_pieces<S: Source, K: Sink, L: Ledger>(
 }
 
 /// Answers the job that has read nothing yet: reads its text piece by piece, and then writes what the end of the text settles.
-fn answer<S: Source, K: Sink, L: Ledger>(
+pub(crate) fn answer<S: Source, K: Sink, L: Ledger>(
     alloc: Global,
     job: &mut Job,
     source: &mut S,

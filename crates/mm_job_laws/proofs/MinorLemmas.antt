@@ -1,5 +1,5 @@
 -- Where the word `minor` asks a formula, the output says whether it holds, after each edit too.
-use Rattle.std.proofs.Common.{◌≡◌, ℕ, Bool, true, false, List, [], refl, sym, ap, subst, ◌∙◌}
+use Rattle.std.proofs.Common.{◌≡◌, inl, inr, ℕ, Bool, true, false, List, [], refl, sym, ap, subst, ◌∙◌}
 use Rattle.std.specs.Prelude.{Ok, Err, None, codes, if◌then◌else◌}
 use Rattle.std.specs.declared.result.Result.{Result}
 use Rattle.mm_edit.specs.Edits.{Applied}
@@ -15,7 +15,7 @@ use Rattle.mm_job.specs.Settings.{Settings, with_formula}
 use Rattle.mm_job.specs.declared.output_line.OutputLine.{OutputLine}
 use Rattle.mm_job.specs.declared.output_line.OutputLine.TheVariants.{Says}
 use Rattle.mm_job_laws.specs.AnswerLaws.{ComesTo, HasLine, IsAnswer, IsAsked, IsSound, IsTruth}
-use Rattle.mm_job_laws.specs.MinorLaws.{IsDecided, MinorsAreDecided}
+use Rattle.mm_job_laws.specs.MinorLaws.{AreTold, IsTold, MinorsAreDecided, MinorsAreTold, Telling, tells_minor, tells_truth}
 use Rattle.mm_job_laws.proofs.AnswerLemmas.{headers_give_sessions, lines_are_answers, output_begins_with_answer}
 use Rattle.mm_job_laws.proofs.ItemLemmas.{block_line, compared_keeps, keeps, single_line}
 use Rattle.mm_job_text.specs.Arguments.{begins}
@@ -26,7 +26,12 @@ use Rattle.mm_lines.specs.declared.line.Line.{Line}
 use Rattle.mm_logic.specs.Formula.{Formula}
 use Rattle.mm_logic.specs.StateSize.{Query}
 use Rattle.mm_logic.specs.StateSize.Query.{Decide}
-use Rattle.mm_tree.specs.NamedTree.{Tree}
+use Rattle.mm_formula.proofs.ScopeLemmas.{scoped}
+use Rattle.mm_matrix.specs.MatrixValue.{MatrixValue, IsMatrix}
+use Rattle.mm_minor.specs.MinorFormula.{minor_formula}
+use Rattle.mm_minor.proofs.MinorLemmas.{minors_asked}
+use Rattle.mm_minor.proofs.ScopeLemmas.{minor_formula_scoped, minor_formula_sorted}
+use Rattle.mm_tree.specs.NamedTree.{Tree, shape}
 
 -- ---- the query stays
 
@@ -62,7 +67,7 @@ truth_of f query F tree line is h = subst (λ (query : Query). IsAnswer f query 
 
 -- an item that is done
 decided : (F : Formula) (t : Session) (reply : Reply) (output : List OutputLine) → IsSound (after_reply t reply) → (after_reply t reply).query ≡ Decide F
-    → HasLine (reply_line reply) output → IsDecided F reply output
+    → HasLine (reply_line reply) output → IsTold (tells_truth F) reply output
 decided F t reply output sound asks has new is =
     let same : after_reply t reply ≡ new = ap (after_reply t) is in
     let valid = subst (λ (s : Session). IsSound s) same sound in
@@ -86,7 +91,7 @@ minors_are_decided limit F text rest s scoped read =
       answer = begins.answer;
       later = begins.later;
       first = begins.first;
-      is_truth = truth_of s.f s.query (slotted [] F) s.tree begins.answer asks begins.is_answer;
+      told = truth_of s.f s.query (slotted [] F) s.tree begins.answer asks begins.is_answer;
       singles = λ t r more comes.
           decided (slotted [] F) t (single t r) (output_lines text settings) (keeps given.1 (ComesTo.after_line comes))
           (comes_asking (ComesTo.after_line comes) ∙ asks) (single_line settings text rest s t r more read comes);
@@ -94,3 +99,32 @@ minors_are_decided limit F text rest s scoped read =
           decided (slotted [] F) t (block t r rs) (output_lines text settings) (keeps given.1 (ComesTo.after_block comes))
           (comes_asking (ComesTo.after_block comes) ∙ asks) (block_line settings text rest s t r rs more read comes);
     }
+
+-- ---- what one telling says, another says
+
+retold : (P Q : Telling) → ((f : Field) (tree : Tree) (line : List ℕ) → P f tree line → Q f tree line) → (reply : Reply) (output : List OutputLine)
+    → IsTold P reply output → IsTold Q reply output
+retold P Q same reply output told = λ new is.
+    let t = told new is in
+    (t.0, same new.f new.tree t.0 t.1, t.2, t.3)
+
+all_retold : (P Q : Telling) → ((f : Field) (tree : Tree) (line : List ℕ) → P f tree line → Q f tree line) → (s : Session) (rest : List Line) (output : List OutputLine)
+    → AreTold P s rest output → AreTold Q s rest output
+all_retold P Q same s rest output told = record {
+  answer = told.answer;
+  later = told.later;
+  first = told.first;
+  told = same s.f s.tree told.answer told.told;
+  singles = λ t r more comes. retold P Q same (single t r) output (told.singles t r more comes);
+  blocks = λ t r rs more comes. retold P Q same (block t r rs) output (told.blocks t r rs more comes);
+}
+
+minor_told : (n : MatrixValue) → IsMatrix n → (f : Field) (tree : Tree) (line : List ℕ) → tells_truth (slotted [] (minor_formula n)) f tree line → tells_minor n f tree line
+minor_told n m f tree line (inl h) = inl ((minors_asked f (shape tree) n m).0 h.0, h.1)
+minor_told n m f tree line (inr h) = inr (λ has. h.0 ((minors_asked f (shape tree) n m).1 has), h.1)
+
+pub minors_are_told : MinorsAreTold
+minors_are_told limit n text rest s m few read =
+    let F = minor_formula n in
+    all_retold (tells_truth (slotted [] F)) (tells_minor n) (minor_told n m) s rest (output_lines text (with_formula limit F))
+    (minors_are_decided limit F text rest s (scoped F None (minor_formula_sorted n) refl (minor_formula_scoped n few)) read)
