@@ -68,4 +68,4 @@ pub spent_on_end : (settings : Settings) (a b h k : Option (List ℕ)) (job : Jo
 spent_on_end settings a b h k job first s t at before spent =
     spent_in_all settings a job.text first s t before
     (spent_to_end settings a b job.text s t at.far.took at.stop
-    (subst (λ (n : ℕ). SpendsOnText s t (settled_work job.text n) (bound_of job.text n)) at.same spent))
+    (subst (λ (n : Settings). SpendsOnText s t (settled_work job.text n) (bound_of job.text n)) at.same spent))
