@@ -1,5 +1,5 @@
 -- The matrix that the words of `minor` show, and a run that wants memory before it reads.
-use Rattle.std.proofs.Common.{◌≡◌, ◌<◌, ◌≤◌, ◌⊎◌, ◌×◌, ◌&&◌, ◌==◌, ◌++◌, ◌∷◌, inl, inr, ℕ, nat_le, List, [], length, take, All, get_or, true, false, Option, sym, ap, ◌∙◌, subst, arith}
+use Rattle.std.proofs.Common.{◌≡◌, ◌<◌, ◌≤◌, ◌⊎◌, ◌&&◌, ◌==◌, ◌++◌, ◌∷◌, inl, inr, ℕ, nat_le, List, [], length, take, All, get_or, true, false, Option, sym, ap, ◌∙◌, subst, arith}
 use Rattle.std.specs.List.{list_all}
 use Rattle.std.proofs.lemmas.Bool.{leb-true, and_parts}
 use Rattle.std.proofs.lemmas.Bool.Decides.{eqb_tells}
@@ -34,15 +34,15 @@ pub record AreFacts (m : MinorMatrix) : Type 0 where
 pub facts : (m : MinorMatrix) → IsSmallMatrix m → AreFacts m
 facts m h =
     let c = columns_of m.rows in
-    let first = and_parts (nat_le 1 (length m.rows)) (nat_le 1 c && nat_le c 5 && list_all (λ v. length v == c) m.rows) h.small in
-    let second = and_parts (nat_le 1 c) (nat_le c 5 && list_all (λ v. length v == c) m.rows) first.1 in
-    let third = and_parts (nat_le c 5) (list_all (λ v. length v == c) m.rows) second.1 in
-    let some = leb-true 1 (length m.rows) first.0 in
+    let whole = and_parts (nat_le 1 (length m.rows) && nat_le 1 c && nat_le c 5) (list_all (λ v. length v == c) m.rows) h.small in
+    let bounds = and_parts (nat_le 1 (length m.rows) && nat_le 1 c) (nat_le c 5) whole.0 in
+    let least = and_parts (nat_le 1 (length m.rows)) (nat_le 1 c) bounds.0 in
+    let some = leb-true 1 (length m.rows) least.0 in
     record {
       some = omega (arith, some);
-      few = leb-true c 5 third.0;
+      few = leb-true c 5 bounds.1;
       row = λ k l. record {
-        len = one_length m.rows c k third.1 l (eqb_tells (length (get_or m.rows k [])) c);
+        len = one_length m.rows c k whole.1 l (eqb_tells (length (get_or m.rows k [])) c);
         digits = All-get_or (λ v. AreDigits m.field v) m.rows k [] l h.digits;
       };
     }

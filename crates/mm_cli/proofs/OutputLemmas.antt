@@ -1,11 +1,11 @@
 -- The output of a job is one line or more, each ended by a newline.
-use Rattle.std.proofs.Common.{◌≡◌, ◌-◌, ◌+◌, ℕ, Bool, true, false, List, [], ◌∷◌, ◌++◌, length, Some, refl, sym, ap, ◌∙◌, subst, append_assoc, arith}
-use Rattle.std.specs.Prelude.{slice_get, flat_map, if◌then◌else◌, codes}
+use Rattle.std.proofs.Common.{◌≡◌, ℕ, Bool, true, false, List, [], ◌∷◌, ◌++◌, length, Some, refl, sym, ap, ◌∙◌, subst, append_assoc, arith}
+use Rattle.std.specs.Prelude.{slice_get, if◌then◌else◌, codes}
 use Rattle.std.proofs.lemmas.List.{append-nil, length-append}
 use Rattle.mm_lines.specs.Lines.{is_over, lines}
 use Rattle.mm_job_text.specs.Readers.{Reading, Read, Refused, Short}
 use Rattle.mm_job.specs.Header.{Session, header}
-use Rattle.mm_job.specs.Output.{Ended, More, Over, ending, lines_after_header, output, output_lines, printed, printed_all, written_lines}
+use Rattle.mm_job.specs.Output.{Ended, Over, lines_after_header, output, output_lines, printed, printed_all, written_lines}
 use Rattle.mm_job.specs.declared.output_line.OutputLine.{OutputLine}
 use Rattle.mm_job.specs.declared.output_line.OutputLine.TheVariants.{Says, Refuses}
 use Rattle.mm_job.specs.Settings.{Settings}

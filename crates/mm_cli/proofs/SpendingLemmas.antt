@@ -1,8 +1,8 @@
 -- The steps of a run are within the bound on the work of its job.
-use Rattle.std.proofs.Common.{◌≡◌, ◌∙◌, ◌⊎◌, inl, inr, ℕ, ◌+◌, ◌≤◌, List, [], ◌++◌, length, Option, Some, None, refl, sym, ap, subst, arith}
+use Rattle.std.proofs.Common.{◌≡◌, ◌∙◌, ◌⊎◌, inl, inr, ℕ, ◌+◌, ◌≤◌, List, [], ◌++◌, length, Option, Some, None, sym, ap, subst, arith}
 use Rattle.std.specs.Io.KnownBytes.{Consumes, IsAtEnd}
 use Rattle.std.proofs.lemmas.List.{append-nil, length-append}
-use Rattle.mm_lines.specs.Lines.{lines, most_bytes}
+use Rattle.mm_lines.specs.Lines.{most_bytes}
 use Rattle.mm_job.specs.Calls.{SpendsOnText}
 use Rattle.mm_job.specs.Jobs.{JobValue, with_piece}
 use Rattle.mm_job.specs.Work.{bound_of, settled_work, work}

@@ -1,5 +1,5 @@
 -- What is said where no lines are left.
-use Rattle.std.specs.Prelude.{◌≡◌, refl, ℕ, Bool, [], Option, Some, None}
+use Rattle.std.specs.Prelude.{◌≡◌, refl, Bool, [], Option, Some, None}
 use Rattle.std.proofs.Common.{ap, ◌∙◌}
 use Rattle.mm_tree.specs.TreeValue.{TreeValue}
 use Rattle.mm_job_text.specs.Readers.{Reading, and_then, now}

@@ -1,5 +1,5 @@
 -- What is written for some lines is a front of what is written for these and more.
-use Rattle.std.specs.Prelude.{◌≡◌, refl, ℕ, Bool, true, false, List, [], ◌∷◌, ◌++◌, Some, None, if◌then◌else◌}
+use Rattle.std.specs.Prelude.{◌≡◌, refl, Bool, true, false, List, [], ◌∷◌, ◌++◌, Some, None, if◌then◌else◌}
 use Rattle.std.proofs.Common.{sym, subst, ap}
 use Rattle.mm_lines.specs.Fronts.{IsFront}
 use Rattle.mm_lines.specs.declared.line.Line.{Line}

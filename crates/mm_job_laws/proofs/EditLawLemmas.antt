@@ -1,5 +1,5 @@
 -- What the output of a job has of the edits that it comes to, and the limit that its trees keep.
-use Rattle.std.proofs.Common.{◌≡◌, ℕ, Bool, true, false, not, List, refl, sym, ap, subst, ◌∙◌}
+use Rattle.std.proofs.Common.{◌≡◌, Bool, true, false, not, List, refl, sym, ap, subst, ◌∙◌}
 use Rattle.std.specs.Prelude.{codes, Ok, Err, if◌then◌else◌}
 use Rattle.std.specs.declared.result.Result.{Result}
 use Rattle.mm_edit.proofs.WeightLemmas.{shape_stays}

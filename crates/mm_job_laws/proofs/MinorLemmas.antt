@@ -5,10 +5,9 @@ use Rattle.std.specs.declared.result.Result.{Result}
 use Rattle.mm_edit.specs.Edits.{Applied}
 use Rattle.mm_field.specs.declared.Field.{Field}
 use Rattle.mm_formula.specs.Scope.{slotted}
-use Rattle.mm_formula.specs.Syntax.{Syntax}
 use Rattle.mm_job.specs.Edits.{Reply, Changed, Denied, block, changed, checked, compared_or, line_edit, replace_edit, single}
 use Rattle.mm_job.specs.Header.{Session, is_over_limit}
-use Rattle.mm_job.specs.Items.{Items, items}
+use Rattle.mm_job.specs.Items.{Items}
 use Rattle.mm_job.specs.Meaning.{answer_line}
 use Rattle.mm_job.specs.Output.{after_reply, output_lines, reply_line}
 use Rattle.mm_job.specs.Settings.{Settings, with_formula}

@@ -1,7 +1,6 @@
 use Rattle.std.proofs.Common.{sym, ◌∙◌}
 use Rattle.mm_header.specs.QueryValues.{query_value}
 use Rattle.mm_header.specs.State.HeaderStates.{header_value}
-use Rattle.mm_job_text.specs.declared.refusal.Stop.TheVariants as stop
 use Rattle.mm_job.proofs.StartLemmas.{given_asked, given_refused, query_starts, refused_stops}
 use Rattle.mm_job.proofs.editor.start_given.Goals as goal
 

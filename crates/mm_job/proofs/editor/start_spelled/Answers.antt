@@ -1,10 +1,6 @@
-use Rattle.std.proofs.Common.{◌≡◌}
 use Rattle.std.specs.Prelude.{Ok}
-use Rattle.mm_formula.specs.declared.scope.Scoped.{Scoped}
-use Rattle.mm_header.specs.Queries.{query_line}
 use Rattle.mm_header.specs.QueryValues.{query_value}
 use Rattle.mm_header.specs.State.HeaderStates.{header_value}
-use Rattle.mm_job_text.specs.Readers.{whole}
 use Rattle.mm_job.proofs.StartLemmas.{query_starts, spelled_read, spelled_stops}
 use Rattle.mm_job.proofs.editor.start_spelled.Goals as goal
 
