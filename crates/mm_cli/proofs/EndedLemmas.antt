@@ -11,6 +11,7 @@ use Rattle.mm_job.specs.Output.{settled_lines, is_refusal, status_of}
 use Rattle.mm_job.specs.declared.progress.Progress.{Progress}
 use Rattle.mm_job.specs.declared.progress.Progress.TheVariants.{Ended, More}
 use Rattle.mm_job.specs.declared.output_line.OutputLine.{OutputLine}
+use Rattle.mm_job.specs.Settings.{Settings}
 use Rattle.mm_cli.specs.Runs.{IsEnd, IsEnough}
 
 abbrev ended_with : Progress → Status
@@ -18,23 +19,23 @@ ended_with (Ended s) = s
 ended_with More = status.Done
 
 -- Why a job ended.
-pub data Why (limit : ℕ) (a : List ℕ) (s : Status) : Type 0 where
-  refused : begins_refused (settled_lines a limit) ≡ true → status.Refused ≡ s → Why limit a s
-  over : is_over a ≡ true → status.EditRefused ≡ s → Why limit a s
+pub data Why (settings : Settings) (a : List ℕ) (s : Status) : Type 0 where
+  refused : begins_refused (settled_lines a settings) ≡ true → status.Refused ≡ s → Why settings a s
+  over : is_over a ≡ true → status.EditRefused ≡ s → Why settings a s
 
-pub why : (limit : ℕ) (a : List ℕ) (s : Status) → progress a limit ≡ Ended s → Why limit a s
-why limit a s e = go (begins_refused (settled_lines a limit)) (is_over a) refl refl e
+pub why : (settings : Settings) (a : List ℕ) (s : Status) → progress a settings ≡ Ended s → Why settings a s
+why settings a s e = go (begins_refused (settled_lines a settings)) (is_over a) refl refl e
   where
-    go : (r o : Bool) → begins_refused (settled_lines a limit) ≡ r → is_over a ≡ o
-        → (if r then Ended status.Refused else (if o then Ended status.EditRefused else More)) ≡ Ended s → Why limit a s
+    go : (r o : Bool) → begins_refused (settled_lines a settings) ≡ r → is_over a ≡ o
+        → (if r then Ended status.Refused else (if o then Ended status.EditRefused else More)) ≡ Ended s → Why settings a s
     go true o p q x = refused p (ap ended_with x)
     go false true p q x = over q (ap ended_with x)
     go false false p q x = cc
 
 -- What was taken then is enough, where it is at most one byte more than is used.
-pub ended_is_enough : (limit : ℕ) (a : List ℕ) (left : Option (List ℕ)) (s : Status) → length a ≤ most_bytes + 1 → progress a limit ≡ Ended s
-    → IsEnough limit a left
-ended_is_enough limit a left s l e = elim (why limit a s e) [
+pub ended_is_enough : (settings : Settings) (a : List ℕ) (left : Option (List ℕ)) (s : Status) → length a ≤ most_bytes + 1 → progress a settings ≡ Ended s
+    → IsEnough settings a left
+ended_is_enough settings a left s l e = elim (why settings a s e) [
   | refused h p ↦ inr (inl h)
   | over h p ↦ inr (inr (omega (arith, l, ltb-true most_bytes (length a) h)))
 ]
@@ -50,8 +51,8 @@ end_ends (first ∷ rest) = go (is_refusal first) (list_any is_refusal rest)
     go false false = inl refl
 
 -- And so is the one that a job ended with.
-pub ended_ends : (limit : ℕ) (a : List ℕ) (s : Status) → progress a limit ≡ Ended s → IsEnd s
-ended_ends limit a s e = elim (why limit a s e) [
+pub ended_ends : (settings : Settings) (a : List ℕ) (s : Status) → progress a settings ≡ Ended s → IsEnd s
+ended_ends settings a s e = elim (why settings a s e) [
   | refused h p ↦ inr (inl (sym p))
   | over h p ↦ inr (inr (sym p))
 ]

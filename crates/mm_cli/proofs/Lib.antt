@@ -1,4 +1,5 @@
 pub mod EndedLemmas
+pub mod MinorLemmas
 pub mod OutputLemmas
 pub mod RunLemmas
 pub mod SpendingLemmas

@@ -1,13 +1,14 @@
 -- The output of a job is one line or more, each ended by a newline.
-use Rattle.std.proofs.Common.{◌≡◌, ◌-◌, ◌+◌, ℕ, Bool, true, false, List, [], ◌∷◌, ◌++◌, length, Some, refl, sym, ap, ◌∙◌, subst, append_assoc, arith}
-use Rattle.std.specs.Prelude.{slice_get, flat_map, if◌then◌else◌, codes}
+use Rattle.std.proofs.Common.{◌≡◌, ℕ, Bool, true, false, List, [], ◌∷◌, ◌++◌, length, Some, refl, sym, ap, ◌∙◌, subst, append_assoc, arith}
+use Rattle.std.specs.Prelude.{slice_get, if◌then◌else◌, codes}
 use Rattle.std.proofs.lemmas.List.{append-nil, length-append}
 use Rattle.mm_lines.specs.Lines.{is_over, lines}
 use Rattle.mm_job_text.specs.Readers.{Reading, Read, Refused, Short}
 use Rattle.mm_job.specs.Header.{Session, header}
-use Rattle.mm_job.specs.Output.{Ended, More, Over, ending, lines_after_header, output, output_lines, printed, printed_all, written_lines}
+use Rattle.mm_job.specs.Output.{Ended, Over, lines_after_header, output, output_lines, printed, printed_all, written_lines}
 use Rattle.mm_job.specs.declared.output_line.OutputLine.{OutputLine}
 use Rattle.mm_job.specs.declared.output_line.OutputLine.TheVariants.{Says, Refuses}
+use Rattle.mm_job.specs.Settings.{Settings}
 use Rattle.mm_job_text.specs.Words.{words}
 use Rattle.mm_sample.specs.Summary.{AreLines}
 
@@ -26,9 +27,9 @@ some_after_header over (Refused why) = at_least_one _ _
 some_after_header true Short = at_least_one _ _
 some_after_header false Short = at_least_one _ _
 
-some_lines : (text : List ℕ) (limit : ℕ) → AtLeastOne (output_lines text limit)
+some_lines : (text : List ℕ) (settings : Settings) → AtLeastOne (output_lines text settings)
 unfolding output_lines written_lines
-some_lines text limit = some_after_header (is_over text) (header limit (lines text))
+some_lines text settings = some_after_header (is_over text) (header settings (lines text))
 
 -- Bytes that a newline ends.
 record EndsLine (bytes : List ℕ) : Type 0 where
@@ -57,8 +58,8 @@ lines_end : (bytes : List ℕ) → EndsLine bytes → AreLines bytes
 lines_end bytes e = subst AreLines (sym e.whole)
     (ap (λ (k : ℕ). slice_get (e.before ++ 10 ∷ []) k) (omega (arith, length-append e.before (10 ∷ []))) ∙ at_length e.before 10)
 
-pub output_is_lines : (text : List ℕ) (limit : ℕ) → AreLines (output text limit)
-output_is_lines text limit =
-    let some = some_lines text limit in
-    lines_end (output text limit)
+pub output_is_lines : (text : List ℕ) (settings : Settings) → AreLines (output text settings)
+output_is_lines text settings =
+    let some = some_lines text settings in
+    lines_end (output text settings)
     (subst (λ (ls : List OutputLine). EndsLine (printed_all ls)) (sym some.whole) (printed_all_ends some.first some.rest))

@@ -22,6 +22,7 @@ use Rattle.mm_cli.specs.Runs.{Answers, IsCut, IsEnd, IsEnough, Ran, Streams, Wri
 use Rattle.mm_cli.specs.Going.{IsRead, SoFar}
 use Rattle.mm_cli.proofs.EndedLemmas.{end_ends, ended_ends, ended_is_enough}
 use Rattle.mm_job.proofs.JobLemmas.{ended_is_final}
+use Rattle.mm_job.specs.Settings.{Settings}
 
 -- a text that is not longer than one byte too many is not cut
 pub whole_piece : (text piece : List ℕ) → length (text ++ piece) ≤ most_bytes + 1 → with_piece text piece ≡ text ++ piece
@@ -45,62 +46,62 @@ took_more (Some xs) (Some ys) None text piece p q = absurd q
 took_more (Some xs) (Some ys) (Some zs) text piece p q = p ∙ ap (λ r. text ++ r) q ∙ sym (append_assoc text piece zs)
 
 -- The job ended with the text that was taken.
-pub answers_ended : (limit : ℕ) (a b h k : Option (List ℕ)) (text : List ℕ) (s : Status) → Consumes a b text → length text ≤ most_bytes + 1
-    → progress text limit ≡ Ended s → Appends h k (settled_output text limit) → Answers limit a b h k s
-answers_ended limit None b h k text s took l e grew = record { grew = tt; ended = tt; read = (text, tt, ended_is_enough limit text b s l e) }
-answers_ended limit (Some all) None h k text s took l e grew = absurd took
-answers_ended limit (Some all) (Some rest) h k text s took l e grew =
-    let both = ended_is_final limit text rest s e in
+pub answers_ended : (settings : Settings) (a b h k : Option (List ℕ)) (text : List ℕ) (s : Status) → Consumes a b text → length text ≤ most_bytes + 1
+    → progress text settings ≡ Ended s → Appends h k (settled_output text settings) → Answers settings a b h k s
+answers_ended settings None b h k text s took l e grew = record { grew = tt; ended = tt; read = (text, tt, ended_is_enough settings text b s l e) }
+answers_ended settings (Some all) None h k text s took l e grew = absurd took
+answers_ended settings (Some all) (Some rest) h k text s took l e grew =
+    let both = ended_is_final settings text rest s e in
     let final = both.0 in
     record {
-      grew = subst (λ z. Appends h k z) (sym (ap (λ t. output t limit) took ∙ final.longer)) grew;
-      ended = sym (ap (λ t. end_of t limit) took ∙ final.status ∙ both.1);
-      read = (text, took, ended_is_enough limit text (Some rest) s l e);
+      grew = subst (λ z. Appends h k z) (sym (ap (λ t. output t settings) took ∙ final.longer)) grew;
+      ended = sym (ap (λ t. end_of t settings) took ∙ final.status ∙ both.1);
+      read = (text, took, ended_is_enough settings text (Some rest) s l e);
     }
 
 -- The text was read to its end, or to one byte more than is used: its output is that of all that the source had.
-whole_or_over : (limit : ℕ) (text rest : List ℕ) → (rest ≡ []) ⊎ (length text ≡ most_bytes + 1) →
-    (output (text ++ rest) limit ≡ output text limit) × (end_of (text ++ rest) limit ≡ end_of text limit)
-whole_or_over limit text rest (inl e) =
+whole_or_over : (settings : Settings) (text rest : List ℕ) → (rest ≡ []) ⊎ (length text ≡ most_bytes + 1) →
+    (output (text ++ rest) settings ≡ output text settings) × (end_of (text ++ rest) settings ≡ end_of text settings)
+whole_or_over settings text rest (inl e) =
     let same : text ++ rest ≡ text = ap (λ z. text ++ z) e ∙ append-nil text in
-    (ap (λ t. output t limit) same, ap (λ t. end_of t limit) same)
-whole_or_over limit text rest (inr e) =
-    let final = over_is_final limit text rest (le-leb (most_bytes + 1) (length text) (omega (arith, e))) in
+    (ap (λ t. output t settings) same, ap (λ t. end_of t settings) same)
+whole_or_over settings text rest (inr e) =
+    let final = over_is_final settings text rest (le-leb (most_bytes + 1) (length text) (omega (arith, e))) in
     (final.longer ∙ sym final.whole, final.status)
 
-enough : (limit : ℕ) (text : List ℕ) (b : Option (List ℕ)) → IsAtEnd b ⊎ (length text ≡ most_bytes + 1) → IsEnough limit text b
-enough limit text b (inl e) = inl e
-enough limit text b (inr e) = inr (inr e)
+enough : (settings : Settings) (text : List ℕ) (b : Option (List ℕ)) → IsAtEnd b ⊎ (length text ≡ most_bytes + 1) → IsEnough settings text b
+enough settings text b (inl e) = inl e
+enough settings text b (inr e) = inr (inr e)
 
 -- The job was finished.
-pub answers_finished : (limit : ℕ) (a b h k : Option (List ℕ)) (text : List ℕ) (s : Status) → Consumes a b text
-    → IsAtEnd b ⊎ (length text ≡ most_bytes + 1) → s ≡ end_of text limit → Appends h k (output text limit) → Answers limit a b h k s
-answers_finished limit None b h k text s took stop e grew = record { grew = tt; ended = tt; read = (text, tt, enough limit text b stop) }
-answers_finished limit (Some all) None h k text s took stop e grew = absurd took
-answers_finished limit (Some all) (Some rest) h k text s took stop e grew =
-    let same = whole_or_over limit text rest stop in
+pub answers_finished : (settings : Settings) (a b h k : Option (List ℕ)) (text : List ℕ) (s : Status) → Consumes a b text
+    → IsAtEnd b ⊎ (length text ≡ most_bytes + 1) → s ≡ end_of text settings → Appends h k (output text settings) → Answers settings a b h k s
+answers_finished settings None b h k text s took stop e grew = record { grew = tt; ended = tt; read = (text, tt, enough settings text b stop) }
+answers_finished settings (Some all) None h k text s took stop e grew = absurd took
+answers_finished settings (Some all) (Some rest) h k text s took stop e grew =
+    let same = whole_or_over settings text rest stop in
     record {
-      grew = subst (λ z. Appends h k z) (sym (ap (λ t. output t limit) took ∙ same.0)) grew;
-      ended = e ∙ sym (ap (λ t. end_of t limit) took ∙ same.1);
-      read = (text, took, enough limit text (Some rest) stop);
+      grew = subst (λ z. Appends h k z) (sym (ap (λ t. output t settings) took ∙ same.0)) grew;
+      ended = e ∙ sym (ap (λ t. end_of t settings) took ∙ same.1);
+      read = (text, took, enough settings text (Some rest) stop);
     }
 
 -- A front of what is settled was written.
-pub front_settled : (limit : ℕ) (a b h k : Option (List ℕ)) (text : List ℕ) → Consumes a b text
-    → GrowsByFront h k (settled_output text limit) → WritesFront limit a h k
-front_settled limit None b h k text took grew = tt
-front_settled limit (Some all) None h k text took grew = absurd took
-front_settled limit (Some all) (Some rest) h k text took grew =
-    subst (λ t. GrowsByFront h k (output t limit)) (sym took)
-    (front_of_longer h k (settled_output text limit) (output (text ++ rest) limit) (output_grows limit text rest).longer grew)
+pub front_settled : (settings : Settings) (a b h k : Option (List ℕ)) (text : List ℕ) → Consumes a b text
+    → GrowsByFront h k (settled_output text settings) → WritesFront settings a h k
+front_settled settings None b h k text took grew = tt
+front_settled settings (Some all) None h k text took grew = absurd took
+front_settled settings (Some all) (Some rest) h k text took grew =
+    subst (λ t. GrowsByFront h k (output t settings)) (sym took)
+    (front_of_longer h k (settled_output text settings) (output (text ++ rest) settings) (output_grows settings text rest).longer grew)
 
 -- A front of the output was written.
-pub front_finished : (limit : ℕ) (a b h k : Option (List ℕ)) (text : List ℕ) → Consumes a b text
-    → IsAtEnd b ⊎ (length text ≡ most_bytes + 1) → GrowsByFront h k (output text limit) → WritesFront limit a h k
-front_finished limit None b h k text took stop grew = tt
-front_finished limit (Some all) None h k text took stop grew = absurd took
-front_finished limit (Some all) (Some rest) h k text took stop grew =
-    subst (λ z. GrowsByFront h k z) (sym (ap (λ t. output t limit) took ∙ (whole_or_over limit text rest stop).0)) grew
+pub front_finished : (settings : Settings) (a b h k : Option (List ℕ)) (text : List ℕ) → Consumes a b text
+    → IsAtEnd b ⊎ (length text ≡ most_bytes + 1) → GrowsByFront h k (output text settings) → WritesFront settings a h k
+front_finished settings None b h k text took stop grew = tt
+front_finished settings (Some all) None h k text took stop grew = absurd took
+front_finished settings (Some all) (Some rest) h k text took stop grew =
+    subst (λ z. GrowsByFront h k z) (sym (ap (λ t. output t settings) took ∙ (whole_or_over settings text rest stop).0)) grew
 
 -- all that was appended is a front
 pub front_all : (h k : Option (List ℕ)) (xs : List ℕ) → Appends h k xs → GrowsByFront h k xs
@@ -109,27 +110,27 @@ front_all h k xs grew = (length xs, subst (λ z. Appends h k z) (sym (take_all (
 -- ---- what was written before the last read
 
 -- All that is settled of what was taken was written, and then a front of something.
-pub streams_then : (limit : ℕ) (a b h k m : Option (List ℕ)) (text piece : List ℕ) (rest : List ℕ) → Consumes a b (text ++ piece)
-    → length piece ≤ most_asked → Appends h k (settled_output text limit) → GrowsByFront k m rest → Streams limit a b h m
-streams_then limit a b h k m text piece rest took asked wrote grew = record {
+pub streams_then : (settings : Settings) (a b h k m : Option (List ℕ)) (text piece : List ℕ) (rest : List ℕ) → Consumes a b (text ++ piece)
+    → length piece ≤ most_asked → Appends h k (settled_output text settings) → GrowsByFront k m rest → Streams settings a b h m
+streams_then settings a b h k m text piece rest took asked wrote grew = record {
   before = text;
   last = piece;
   took = took;
   asked = asked;
   more = take grew.0 rest;
-  wrote = Appends-trans h k m (settled_output text limit) (take grew.0 rest) wrote grew.1;
+  wrote = Appends-trans h k m (settled_output text settings) (take grew.0 rest) wrote grew.1;
 }
 
 -- All that is settled of what was taken was written.
-pub streams_all : (limit : ℕ) (a b h k : Option (List ℕ)) (text : List ℕ) → Consumes a b text
-    → Appends h k (settled_output text limit) → Streams limit a b h k
-streams_all limit a b h k text took wrote = record {
+pub streams_all : (settings : Settings) (a b h k : Option (List ℕ)) (text : List ℕ) → Consumes a b text
+    → Appends h k (settled_output text settings) → Streams settings a b h k
+streams_all settings a b h k text took wrote = record {
   before = text;
   last = [];
   took = subst (λ t. Consumes a b t) (sym (append-nil text)) took;
   asked = omega arith;
   more = [];
-  wrote = subst (λ t. Appends h k t) (sym (append-nil (settled_output text limit))) wrote;
+  wrote = subst (λ t. Appends h k t) (sym (append-nil (settled_output text settings))) wrote;
 }
 
 -- ---- what a run owes at each of its ends
@@ -160,8 +161,8 @@ pub end_not_cut : (s : Status) → IsEnd s → IsCut s → ⊥
 end_not_cut s e c = apart (is_end s) (end_is s e) (cut_is s c)
 
 -- It came to the end of the job.
-pub ran_end : (limit : ℕ) (a b h k : Option (List ℕ)) (s : Status) → IsEnd s → Answers limit a b h k s → Ran limit a b h k s
-ran_end limit a b h k s e answers = record {
+pub ran_end : (settings : Settings) (a b h k : Option (List ℕ)) (s : Status) → IsEnd s → Answers settings a b h k s → Ran settings a b h k s
+ran_end settings a b h k s e answers = record {
   ends = inl e;
   answers = λ _. answers;
   stops = λ r. absurd (end_not_cut s e (inl r));
@@ -170,15 +171,15 @@ ran_end limit a b h k s e answers = record {
 }
 
 -- The job stopped by a fault.
-pub ran_cut : (limit : ℕ) (a b h k : Option (List ℕ)) (e : JobFault) → WritesFront limit a h k → Streams limit a b h k → Ran limit a b h k (cut e)
-ran_cut limit a b h k fault.Write front streams = record {
+pub ran_cut : (settings : Settings) (a b h k : Option (List ℕ)) (e : JobFault) → WritesFront settings a h k → Streams settings a b h k → Ran settings a b h k (cut e)
+ran_cut settings a b h k fault.Write front streams = record {
   ends = inr (inr (inl refl));
   answers = λ e. absurd (end_not_cut ends.WriteFault e (inr (inl refl)));
   stops = λ r. cc;
   front = λ c. front;
   streams = λ c. streams;
 }
-ran_cut limit a b h k fault.NoMemory front streams = record {
+ran_cut settings a b h k fault.NoMemory front streams = record {
   ends = inr (inr (inr refl));
   answers = λ e. absurd (end_not_cut ends.NoMemory e (inr (inr refl)));
   stops = λ r. cc;
@@ -194,72 +195,72 @@ kept (Some xs) (Some ys) None text p q = absurd q
 kept (Some xs) (Some ys) (Some zs) text p q = p ∙ ap (λ r. text ++ r) (sym q)
 
 -- A read failed.
-pub ran_read_fault : (limit : ℕ) (a b c h k : Option (List ℕ)) (text : List ℕ) → SoFar limit a b h k text → Keeps b c → Ran limit a c h k ends.ReadFault
-ran_read_fault limit a b c h k text far q =
+pub ran_read_fault : (settings : Settings) (a b c h k : Option (List ℕ)) (text : List ℕ) → SoFar settings a b h k text → Keeps b c → Ran settings a c h k ends.ReadFault
+ran_read_fault settings a b c h k text far q =
     let took = kept a b c text far.took q in
     record {
       ends = inr (inl refl);
       answers = λ e. absurd (end_not_cut ends.ReadFault e (inl refl));
       stops = λ _. (text, took, far.wrote);
-      front = λ _. front_settled limit a c h k text took (front_all h k (settled_output text limit) far.wrote);
-      streams = λ _. streams_all limit a c h k text took far.wrote;
+      front = λ _. front_settled settings a c h k text took (front_all h k (settled_output text settings) far.wrote);
+      streams = λ _. streams_all settings a c h k text took far.wrote;
     }
 
 -- ---- one piece more
 
 -- how far a run has come with a piece more
-pub further : (limit : ℕ) (a b c h k m : Option (List ℕ)) (text piece : List ℕ) → SoFar limit a b h k text → Consumes b c piece
+pub further : (settings : Settings) (a b c h k m : Option (List ℕ)) (text piece : List ℕ) → SoFar settings a b h k text → Consumes b c piece
     → length text + length piece ≤ most_bytes + 1
-    → Grew k m (settled_output text limit) (settled_output (with_piece text piece) limit) → SoFar limit a c h m (text ++ piece)
-further limit a b c h k m text piece far took l grew =
+    → Grew k m (settled_output text settings) (settled_output (with_piece text piece) settings) → SoFar settings a c h m (text ++ piece)
+further settings a b c h k m text piece far took l grew =
     let size : length (text ++ piece) ≤ most_bytes + 1 = omega (arith, length-append text piece, l) in
     record {
       took = took_more a b c text piece far.took took;
       size = size;
-      wrote = subst (λ t. Appends h m (settled_output t limit)) (whole_piece text piece size)
-          (grown h k m (settled_output text limit) (settled_output (with_piece text piece) limit) far.wrote grew);
+      wrote = subst (λ t. Appends h m (settled_output t settings)) (whole_piece text piece size)
+          (grown h k m (settled_output text settings) (settled_output (with_piece text piece) settings) far.wrote grew);
     }
 
 -- The job ended with the piece.
-pub ran_ended : (limit : ℕ) (a b c h k m : Option (List ℕ)) (text piece : List ℕ) (s : Status) → SoFar limit a b h k text → Consumes b c piece
+pub ran_ended : (settings : Settings) (a b c h k m : Option (List ℕ)) (text piece : List ℕ) (s : Status) → SoFar settings a b h k text → Consumes b c piece
     → length text + length piece ≤ most_bytes + 1
-    → Grew k m (settled_output text limit) (settled_output (with_piece text piece) limit)
-    → Ended s ≡ progress (with_piece text piece) limit → Ran limit a c h m s
-ran_ended limit a b c h k m text piece s far took l grew e =
-    let now = further limit a b c h k m text piece far took l grew in
+    → Grew k m (settled_output text settings) (settled_output (with_piece text piece) settings)
+    → Ended s ≡ progress (with_piece text piece) settings → Ran settings a c h m s
+ran_ended settings a b c h k m text piece s far took l grew e =
+    let now = further settings a b c h k m text piece far took l grew in
     let size : length (text ++ piece) ≤ most_bytes + 1 = omega (arith, length-append text piece, l) in
-    let ended : progress (text ++ piece) limit ≡ Ended s =
-    ap (λ t. progress t limit) (sym (whole_piece text piece size)) ∙ sym e in
-    ran_end limit a c h m s (ended_ends limit (text ++ piece) s ended)
-    (answers_ended limit a c h m (text ++ piece) s now.took now.size ended now.wrote)
+    let ended : progress (text ++ piece) settings ≡ Ended s =
+    ap (λ t. progress t settings) (sym (whole_piece text piece size)) ∙ sym e in
+    ran_end settings a c h m s (ended_ends settings (text ++ piece) s ended)
+    (answers_ended settings a c h m (text ++ piece) s now.took now.size ended now.wrote)
 
 -- The job stopped at the piece.
-pub ran_stopped : (limit : ℕ) (a b c h k m : Option (List ℕ)) (text piece : List ℕ) (e : JobFault) → SoFar limit a b h k text → Consumes b c piece
+pub ran_stopped : (settings : Settings) (a b c h k m : Option (List ℕ)) (text piece : List ℕ) (e : JobFault) → SoFar settings a b h k text → Consumes b c piece
     → length text + length piece ≤ most_bytes + 1 → length piece ≤ most_asked
-    → GrewByFront k m (settled_output text limit) (settled_output (with_piece text piece) limit) → Ran limit a c h m (cut e)
-ran_stopped limit a b c h k m text piece e far took l asked grew =
+    → GrewByFront k m (settled_output text settings) (settled_output (with_piece text piece) settings) → Ran settings a c h m (cut e)
+ran_stopped settings a b c h k m text piece e far took l asked grew =
     let size : length (text ++ piece) ≤ most_bytes + 1 = omega (arith, length-append text piece, l) in
-    ran_cut limit a c h m e
-    (front_settled limit a c h m (text ++ piece) (took_more a b c text piece far.took took)
-    (subst (λ t. GrowsByFront h m (settled_output t limit)) (whole_piece text piece size)
-    (grown_front h k m (settled_output text limit) (settled_output (with_piece text piece) limit) far.wrote grew)))
-    (streams_then limit a c h k m text piece grew.rest (took_more a b c text piece far.took took) asked far.wrote grew.grew)
+    ran_cut settings a c h m e
+    (front_settled settings a c h m (text ++ piece) (took_more a b c text piece far.took took)
+    (subst (λ t. GrowsByFront h m (settled_output t settings)) (whole_piece text piece size)
+    (grown_front h k m (settled_output text settings) (settled_output (with_piece text piece) settings) far.wrote grew)))
+    (streams_then settings a c h k m text piece grew.rest (took_more a b c text piece far.took took) asked far.wrote grew.grew)
 
 -- ---- the end of the text
 
-pub ran_finished : (limit : ℕ) (a b h k m : Option (List ℕ)) (text : List ℕ) (s : Status) → SoFar limit a b h k text
-    → IsAtEnd b ⊎ (length text ≡ most_bytes + 1) → s ≡ end_of text limit → Grew k m (settled_output text limit) (output text limit)
-    → Ran limit a b h m s
-ran_finished limit a b h k m text s far stop e grew =
-    ran_end limit a b h m s (subst IsEnd (sym e) (end_ends (output_lines text limit)))
-    (answers_finished limit a b h m text s far.took stop e (grown h k m (settled_output text limit) (output text limit) far.wrote grew))
+pub ran_finished : (settings : Settings) (a b h k m : Option (List ℕ)) (text : List ℕ) (s : Status) → SoFar settings a b h k text
+    → IsAtEnd b ⊎ (length text ≡ most_bytes + 1) → s ≡ end_of text settings → Grew k m (settled_output text settings) (output text settings)
+    → Ran settings a b h m s
+ran_finished settings a b h k m text s far stop e grew =
+    ran_end settings a b h m s (subst IsEnd (sym e) (end_ends (output_lines text settings)))
+    (answers_finished settings a b h m text s far.took stop e (grown h k m (settled_output text settings) (output text settings) far.wrote grew))
 
-pub ran_unfinished : (limit : ℕ) (a b h k m : Option (List ℕ)) (text : List ℕ) (e : JobFault) → SoFar limit a b h k text
-    → IsAtEnd b ⊎ (length text ≡ most_bytes + 1) → GrewByFront k m (settled_output text limit) (output text limit) → Ran limit a b h m (cut e)
-ran_unfinished limit a b h k m text e far stop grew =
-    ran_cut limit a b h m e
-    (front_finished limit a b h m text far.took stop (grown_front h k m (settled_output text limit) (output text limit) far.wrote grew))
-    (streams_then limit a b h k m text [] grew.rest (subst (λ t. Consumes a b t) (sym (append-nil text)) far.took) (omega arith) far.wrote grew.grew)
+pub ran_unfinished : (settings : Settings) (a b h k m : Option (List ℕ)) (text : List ℕ) (e : JobFault) → SoFar settings a b h k text
+    → IsAtEnd b ⊎ (length text ≡ most_bytes + 1) → GrewByFront k m (settled_output text settings) (output text settings) → Ran settings a b h m (cut e)
+ran_unfinished settings a b h k m text e far stop grew =
+    ran_cut settings a b h m e
+    (front_finished settings a b h m text far.took stop (grown_front h k m (settled_output text settings) (output text settings) far.wrote grew))
+    (streams_then settings a b h k m text [] grew.rest (subst (λ t. Consumes a b t) (sym (append-nil text)) far.took) (omega arith) far.wrote grew.grew)
 
 -- ---- the beginning
 
@@ -271,31 +272,31 @@ untouched : (a : Option (List ℕ)) → Consumes a a []
 untouched None = tt
 untouched (Some xs) = refl
 
-nothing_settled : (limit : ℕ) → settled_output [] limit ≡ []
+nothing_settled : (settings : Settings) → settled_output [] settings ≡ []
 unfolding settled_lines settled written_lines lines_of header header_lines parts
-nothing_settled limit = refl
+nothing_settled settings = refl
 
-pub at_first : (limit : ℕ) (a h : Option (List ℕ)) → SoFar limit a a h h []
-at_first limit a h = record {
+pub at_first : (settings : Settings) (a h : Option (List ℕ)) → SoFar settings a a h h []
+at_first settings a h = record {
   took = untouched a;
   size = omega arith;
-  wrote = subst (λ z. Appends h h z) (sym (nothing_settled limit)) (still h);
+  wrote = subst (λ z. Appends h h z) (sym (nothing_settled settings)) (still h);
 }
 
 -- The status that a job ended with is no fault.
-pub not_a_fault : (limit : ℕ) (text : List ℕ) (s : Status) → progress text limit ≡ Ended s → IsCut s → ⊥
-not_a_fault limit text s e c = end_not_cut s (ended_ends limit text s e) c
+pub not_a_fault : (settings : Settings) (text : List ℕ) (s : Status) → progress text settings ≡ Ended s → IsCut s → ⊥
+not_a_fault settings text s e c = end_not_cut s (ended_ends settings text s e) c
 
 -- ---- where reading stops
 
-pub finished : (limit : ℕ) (a b h k m : Option (List ℕ)) (job : JobValue) (s : Status) → IsRead limit a b h k job
-    → s ≡ end_of job.text job.limit → Grew k m (settled_output job.text job.limit) (output job.text job.limit) → Ran limit a b h m s
-finished limit a b h k m job s at e grew =
-    ran_finished limit a b h k m job.text s at.far at.stop (e ∙ ap (end_of job.text) at.same)
+pub finished : (settings : Settings) (a b h k m : Option (List ℕ)) (job : JobValue) (s : Status) → IsRead settings a b h k job
+    → s ≡ end_of job.text job.settings → Grew k m (settled_output job.text job.settings) (output job.text job.settings) → Ran settings a b h m s
+finished settings a b h k m job s at e grew =
+    ran_finished settings a b h k m job.text s at.far at.stop (e ∙ ap (end_of job.text) at.same)
     (subst (λ n. Grew k m (settled_output job.text n) (output job.text n)) at.same grew)
 
-pub unfinished : (limit : ℕ) (a b h k m : Option (List ℕ)) (job : JobValue) (e : JobFault) → IsRead limit a b h k job
-    → GrewByFront k m (settled_output job.text job.limit) (output job.text job.limit) → Ran limit a b h m (cut e)
-unfinished limit a b h k m job e at grew =
-    ran_unfinished limit a b h k m job.text e at.far at.stop
+pub unfinished : (settings : Settings) (a b h k m : Option (List ℕ)) (job : JobValue) (e : JobFault) → IsRead settings a b h k job
+    → GrewByFront k m (settled_output job.text job.settings) (output job.text job.settings) → Ran settings a b h m (cut e)
+unfinished settings a b h k m job e at grew =
+    ran_unfinished settings a b h k m job.text e at.far at.stop
     (subst (λ n. GrewByFront k m (settled_output job.text n) (output job.text n)) at.same grew)

@@ -1,5 +1,5 @@
 -- What a command that reads its source as a whole owes, from what was read and written.
-use Rattle.std.proofs.Common.{◌≡◌, ◌⊎◌, inl, inr, ℕ, ◌+◌, ◌≤◌, Bool, true, false, not, List, [], ◌++◌, length, take, Option, Some, None, refl, sym, ap, ◌∙◌, subst, arith}
+use Rattle.std.proofs.Common.{◌≡◌, ◌⊎◌, inl, inr, ℕ, ◌+◌, Bool, true, not, List, [], ◌++◌, length, take, Option, Some, None, refl, sym, ap, ◌∙◌, subst, arith}
 use Rattle.std.specs.Prelude.{IfSome, Ok, Err}
 use Rattle.std.specs.declared.result.Result.{Result}
 use Rattle.std.specs.Io.KnownBytes.{Appends}
@@ -7,7 +7,6 @@ use Rattle.std.proofs.lemmas.Bool.{le-leb}
 use Rattle.std.proofs.lemmas.List.{append-nil, length-append, take-append-le}
 use Rattle.mm_base.specs.Causes.{GrowsByFront}
 use Rattle.mm_base.specs.declared.status.Status.{Status}
-use Rattle.mm_base.specs.declared.status.Status.TheVariants as ends
 use Rattle.mm_lines.specs.Lines.{is_over, lines, lines_of, most_bytes}
 use Rattle.mm_decomp.specs.BuildOutput.{build_output, header_of, output_of}
 use Rattle.mm_decomp.specs.Decompositions.{build_parts, decomposition_of, read_at_end}

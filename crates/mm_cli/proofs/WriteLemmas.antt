@@ -3,6 +3,7 @@ use Rattle.std.proofs.Common.{◌≡◌, ◌⊎◌, inl, inr, ℕ, List, Option,
 use Rattle.mm_base.specs.declared.status.Status.{Status}
 use Rattle.mm_base.specs.declared.status.Status.TheVariants as ends
 use Rattle.mm_job.specs.Output.{output_lines}
+use Rattle.mm_job.specs.Settings.{spelled}
 use Rattle.mm_cli.specs.Answers.{Answer, Writes, sample, sample_job}
 use Rattle.mm_cli.specs.Runs.{IsCut, IsEnd}
 use Rattle.mm_cli.specs.Words.{most_limit}
@@ -38,7 +39,7 @@ unwritten answer h end = record {
 
 pub sample_ends : (s : SampleNumbers) → IsEnd (sample s).status
 unfolding sample
-sample_ends s = end_ends (output_lines (sample_job s) most_limit)
+sample_ends s = end_ends (output_lines (sample_job s) (spelled most_limit))
 
 pub short_ends : (s : SampleNumbers) (short : Answer) → sample s ≡ short → IsEnd short.status
 short_ends s short e = subst IsEnd (ap (λ (a : Answer). a.status) e) (sample_ends s)

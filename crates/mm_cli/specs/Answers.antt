@@ -7,6 +7,7 @@ use Rattle.mm_base.specs.Causes.{GrowsByFront}
 use Rattle.mm_base.specs.declared.status.Status.{Status}
 use Rattle.mm_base.specs.declared.status.Status.TheVariants.{Done, Refused, Usage, WriteFault, NoMemory}
 use Rattle.mm_job.specs.Output.{output, end_of}
+use Rattle.mm_job.specs.Settings.{spelled}
 use Rattle.mm_sample.specs.SampleText.{sample_text}
 use Rattle.mm_sample.specs.Summary.{summary}
 use Rattle.mm_decomp.specs.BuildOutput.{build_output}
@@ -46,7 +47,7 @@ sample_job s = sample_text s.field s.elements s.seed
 
 -- `sample` answers its job in short, and ends as the job does.
 unfoldable pub sample : SampleNumbers → Answer
-sample s = record { output = summary (output (sample_job s) most_limit); status = end_of (sample_job s) most_limit }
+sample s = record { output = summary (output (sample_job s) (spelled most_limit)); status = end_of (sample_job s) (spelled most_limit) }
 
 -- `build` answers the text of a decomposition with the header of the tree that is built for it.
 unfoldable pub build : List ℕ → Answer

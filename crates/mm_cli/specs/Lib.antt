@@ -5,3 +5,4 @@ pub mod Answers
 pub mod Whole
 pub mod Owed
 pub mod Spending
+pub mod Minors

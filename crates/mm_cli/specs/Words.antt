@@ -1,15 +1,17 @@
 -- The words of the command line, and what they ask for.
-use Rattle.std.specs.Prelude.{ℕ, ◌≤◌, Bool, false, ◌&&◌, ◌||◌, ◌==◌, nat_le, List, [], ◌∷◌, length, take, drop, codes, slice_index_or, map, String, string_bytes, Option, Some, None, if◌then◌else◌}
+use Rattle.std.specs.Prelude.{ℕ, ◌≡◌, ◌≤◌, Bool, true, ◌&&◌, ◌||◌, ◌==◌, nat_le, List, [], ◌∷◌, length, take, drop, codes, slice_index_or, map, All, String, string_bytes, Option, Some, None, if◌then◌else◌}
 use Rattle.std.specs.declared.alloc.Global.{Global}
 use Rattle.std.specs.List.{list_all}
 use Rattle.std.specs.Str.{bytes_eq}
 use Rattle.mm_field.specs.declared.Field.{Field}
+use Rattle.mm_field.specs.Vectors.{AreDigits}
 use Rattle.mm_lines.specs.Numbers.{number_of}
 use Rattle.mm_space.specs.DigitTexts.{vectors_of}
 use Rattle.mm_job_text.specs.HeaderLines.{field_of}
 use Rattle.mm_cli.specs.declared.words.TheConstants.{MOST_LIMIT, MOST_ELEMENTS, MOST_SEED}
 use Rattle.mm_cli.specs.declared.words.Command.{Command}
-use Rattle.mm_cli.specs.declared.words.Command.TheVariants.{Run, Sample, Build, Dual, NotBuilt}
+use Rattle.mm_cli.specs.declared.words.Command.TheVariants.{Run, Sample, Build, Dual, Minor, NotBuilt}
+use Rattle.mm_cli.specs.declared.words.MinorMatrix.{MinorMatrix}
 use Rattle.mm_cli.specs.declared.words.SampleNumbers.{SampleNumbers}
 
 -- The greatest limit on sizes, which holds where none is given.
@@ -56,12 +58,27 @@ pub record AreWithinBounds (s : SampleNumbers) : Type 0 where
   pub least : 1 ≤ s.seed
   pub greatest : s.seed ≤ most_seed
 
--- A limit that is given is from 1 to the greatest, and so are the numbers of a sample.
+-- how many columns rows of one length have
+abbrev pub columns_of : List (List ℕ) → ℕ
+columns_of rows = length (slice_index_or rows 0 [])
+
+-- at least one row, and all rows of one length from 1 to 5: the rows of a matrix of so many columns
+abbrev pub is_small_matrix : List (List ℕ) → Bool
+is_small_matrix rows =
+    nat_le 1 (length rows) && nat_le 1 (columns_of rows) && nat_le (columns_of rows) 5 && list_all (λ v. length v == columns_of rows) rows
+
+-- A matrix of 1 to 5 columns over its field.
+pub record IsSmallMatrix (m : MinorMatrix) : Type 0 where
+  pub digits : All (λ v. AreDigits m.field v) m.rows
+  pub small : is_small_matrix m.rows ≡ true
+
+-- A limit that is given is from 1 to the greatest, the numbers of a sample are within theirs, and a matrix has 1 to 5 columns.
 abbrev pub IsWithinBounds : Command → Type 0
 IsWithinBounds (Run limit) = (1 ≤ limit) × (limit ≤ most_limit)
 IsWithinBounds (Sample s) = AreWithinBounds s
 IsWithinBounds Build = Unit {0}
 IsWithinBounds Dual = Unit {0}
+IsWithinBounds (Minor m) = IsSmallMatrix m
 IsWithinBounds NotBuilt = Unit {0}
 
 -- a command that is in the table and is not built yet
@@ -82,28 +99,21 @@ with_joined word joined =
     if bytes_eq word (codes "run") && bytes_eq (take 8 joined) (codes "--limit=")
     then limited (number_within 1 most_limit (drop 8 joined)) else None
 
--- how many columns rows of one length have
-abbrev pub columns_of : List (List ℕ) → ℕ
-columns_of rows = length (slice_index_or rows 0 [])
+-- `minor` with a matrix, where the rows are those of one with 1 to 5 columns
+abbrev pub minor_of : Field → Option (List (List ℕ)) → Option Command
+minor_of f None = None
+minor_of f (Some rows) = if is_small_matrix rows then Some (Minor (record { field = f; rows = rows })) else None
 
--- at least one row, and all rows of one length from 1 to 5: the rows of a matrix of so many columns
-abbrev pub is_small_matrix : List (List ℕ) → Bool
-is_small_matrix rows =
-    nat_le 1 (length rows) && nat_le 1 (columns_of rows) && nat_le (columns_of rows) 5 && list_all (λ v. length v == columns_of rows) rows
-
-abbrev pub is_some_small_matrix : Option (List (List ℕ)) → Bool
-is_some_small_matrix None = false
-is_some_small_matrix (Some rows) = is_small_matrix rows
-
-abbrev pub is_matrix_over : Option Field → List ℕ → Bool
-is_matrix_over None rows = false
-is_matrix_over (Some f) rows = is_some_small_matrix (vectors_of f rows)
+-- `minor` with the matrix over a field whose rows a word shows
+abbrev pub minor_over : Option Field → List ℕ → Option Command
+minor_over None rows = None
+minor_over (Some f) rows = minor_of f (vectors_of f rows)
 
 -- `run --limit N` or `minor Q GEN`
 abbrev pub with_two : List ℕ → List ℕ → List ℕ → Option Command
 with_two word first second =
     if bytes_eq word (codes "run") && bytes_eq first (codes "--limit") then limited (number_within 1 most_limit second)
-    else not_built (bytes_eq word (codes "minor") && is_matrix_over (field_within first) second)
+    else if bytes_eq word (codes "minor") then minor_over (field_within first) second else None
 
 -- `sample Q N SEED`
 abbrev pub with_three : List ℕ → List ℕ → List ℕ → List ℕ → Option Command

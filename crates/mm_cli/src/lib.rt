@@ -5,6 +5,7 @@
 #![tactic(auto)]
 
 mod building;
+mod minors;
 mod reading;
 mod sampling;
 mod tool;
@@ -13,4 +14,4 @@ mod words;
 mod writing;
 
 pub use tool::top;
-pub use words::{Command, SampleNumbers, command_of};
+pub use words::{Command, MinorMatrix, SampleNumbers, command_of};

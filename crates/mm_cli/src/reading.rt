@@ -6,6 +6,7 @@ ghost use Rattle.mm_base.specs.Causes.{Rose};
 ghost use Rattle.mm_base.specs.declared.status.Status.TheVariants as ends;
 ghost use Rattle.mm_cli.specs.Runs.{Ran, cut, most_asked};
 ghost use Rattle.mm_cli.specs.Spending.{SpendsOnJob, SpendsOnRead};
+ghost use Rattle.mm_job.specs.Settings.{spelled};
 ghost use Rattle.mm_job.specs.Work.{settled_work};
 
 use mm_base::{Sink, Source, Status, Steps};
@@ -90,14 +91,14 @@ fn read_pieces<S: Source, K: Sink, L: Ledger>(
     requires new { job.old.text ≡ [] }
     requires left { start.left ≡ S.left source.old }
     requires held { start.held ≡ K.held sink.old }
-    ensures stopped { IfSome result (λ s. Ran job.old.limit start.left (S.left source.new) start.held (K.held sink.new) s) }
+    ensures stopped { IfSome result (λ s. Ran job.old.settings start.left (S.left source.new) start.held (K.held sink.new) s) }
     ensures all { IfNone result ((job.new.live ≡ true)
-        × IsRead job.old.limit start.left (S.left source.new) start.held (K.held sink.new) job.new) }
+        × IsRead job.old.settings start.left (S.left source.new) start.held (K.held sink.new) job.new) }
     ensures read_fault { result ≡ Some ends.ReadFault → Rose (S.faults source.old) (S.faults source.new) }
     ensures write_later { K.faults sink.old ≤ K.faults sink.new }
     ensures write_fault { result ≡ Some ends.WriteFault → Rose (K.faults sink.old) (K.faults sink.new) }
-    ensures steps { IfSome result (λ s. SpendsOnJob job.old.limit start.left steps.old steps.new) }
-    ensures steps_so_far { IfNone result (steps.new ≤ steps.old + settled_work job.new.text job.old.limit) }
+    ensures steps { IfSome result (λ s. SpendsOnJob job.old.settings start.left steps.old steps.new) }
+    ensures steps_so_far { IfNone result (steps.new ≤ steps.old + settled_work job.new.text job.old.settings) }
 {
     let mut buffer = [0u8; PIECE];
     let mut taken = 0;
@@ -113,7 +114,7 @@ fn read_pieces<S: Source, K: Sink, L: Ledger>(
 }
 
 /// Answers the job that has read nothing yet: reads its text piece by piece, and then writes what the end of the text settles.
-fn answer<S: Source, K: Sink, L: Ledger>(
+pub(crate) fn answer<S: Source, K: Sink, L: Ledger>(
     alloc: Global,
     job: &mut Job,
     source: &mut S,
@@ -122,10 +123,10 @@ fn answer<S: Source, K: Sink, L: Ledger>(
 ) -> Status
     requires live { job.old.live ≡ true }
     requires new { job.old.text ≡ [] }
-    ensures run { Ran job.old.limit (S.left source.old) (S.left source.new) (K.held sink.old) (K.held sink.new) result }
+    ensures run { Ran job.old.settings (S.left source.old) (S.left source.new) (K.held sink.old) (K.held sink.new) result }
     ensures read_fault { result ≡ ends.ReadFault → Rose (S.faults source.old) (S.faults source.new) }
     ensures write_fault { result ≡ ends.WriteFault → Rose (K.faults sink.old) (K.faults sink.new) }
-    ensures steps { SpendsOnJob job.old.limit (S.left source.old) steps.old steps.new }
+    ensures steps { SpendsOnJob job.old.settings (S.left source.old) steps.old steps.new }
 {
     if let Some(status) = read_pieces(alloc, job, source, sink, steps) {
         return status;
@@ -146,10 +147,10 @@ pub fn run<S: Source, K: Sink, L: Ledger>(
 ) -> Status
     requires least { 1 ≤ limit }
     requires most { limit ≤ 4194304 }
-    ensures run { Ran limit (S.left source.old) (S.left source.new) (K.held sink.old) (K.held sink.new) result }
+    ensures run { Ran (spelled limit) (S.left source.old) (S.left source.new) (K.held sink.old) (K.held sink.new) result }
     ensures read_fault { result ≡ ends.ReadFault → Rose (S.faults source.old) (S.faults source.new) }
     ensures write_fault { result ≡ ends.WriteFault → Rose (K.faults sink.old) (K.faults sink.new) }
-    ensures steps { SpendsOnJob limit (S.left source.old) steps.old steps.new }
+    ensures steps { SpendsOnJob (spelled limit) (S.left source.old) steps.old steps.new }
 {
     let mut job = Job::new(alloc, limit);
     answer(alloc, &mut job, source, sink, steps)

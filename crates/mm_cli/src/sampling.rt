@@ -3,6 +3,7 @@ ghost use Rattle.std.specs.Prelude.{◌≡◌, ◌⊎◌, [], IfOk};
 ghost use Rattle.mm_base.specs.Causes.{Rose};
 ghost use Rattle.mm_base.specs.declared.status.Status.TheVariants as ends;
 ghost use Rattle.mm_job.specs.Output.{end_of, output};
+ghost use Rattle.mm_job.specs.Settings.{spelled};
 ghost use Rattle.mm_cli.specs.Answers.{Writes, sample, sample_job};
 ghost use Rattle.mm_cli.specs.Runs.{IsCut, IsEnd};
 ghost use Rattle.mm_cli.specs.Spending.{IsWithinBound};
@@ -24,9 +25,9 @@ fn answer_job<L: Ledger>(
     steps: &mut Steps<L>,
 ) -> Result<Status, NoMemory>
     requires { sink.old ≡ [] }
-    ensures output { IfOk result (λ status. sink.new ≡ output text.now most_limit) }
-    ensures status { IfOk result (λ status. status ≡ end_of text.now most_limit) }
-    ensures steps { IsWithinBound text.now most_limit steps.old steps.new }
+    ensures output { IfOk result (λ status. sink.new ≡ output text.now (spelled most_limit)) }
+    ensures status { IfOk result (λ status. status ≡ end_of text.now (spelled most_limit)) }
+    ensures steps { IsWithinBound text.now (spelled most_limit) steps.old steps.new }
 {
     let mut source = SureSource::new(alloc, text)?;
     match run(alloc, MOST_LIMIT, &mut source, sink, steps) {
@@ -51,7 +52,7 @@ fn shorten<L: Ledger>(
 ) -> Result<Short, NoMemory>
     requires { AreWithinBounds numbers }
     ensures short { IfOk result (λ short. sample numbers ≡ record { output = short.text; status = short.status }) }
-    ensures steps { IsWithinBound (sample_job numbers) most_limit steps.old steps.new }
+    ensures steps { IsWithinBound (sample_job numbers) (spelled most_limit) steps.old steps.new }
 {
     let job = sample_text(alloc, numbers.field, numbers.elements, numbers.seed)?;
     let mut sink = SureSink::new(alloc);
@@ -72,7 +73,7 @@ pub fn sample<K: Sink, L: Ledger>(
     ensures ends { IsEnd result ⊎ IsCut result }
     ensures read_fault { result ≡ ends.ReadFault → ⊥ }
     ensures write_fault { result ≡ ends.WriteFault → Rose (K.faults sink.old) (K.faults sink.new) }
-    ensures steps { IsWithinBound (sample_job numbers) most_limit steps.old steps.new }
+    ensures steps { IsWithinBound (sample_job numbers) (spelled most_limit) steps.old steps.new }
 {
     match shorten(alloc, numbers, steps) {
         Ok(short) => write(short.text.bytes(), short.status, sink),

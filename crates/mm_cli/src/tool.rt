@@ -7,6 +7,7 @@ ghost use Rattle.mm_cli.specs.Spending.{Spends};
 ghost use Rattle.mm_cli.specs.Words.{asked};
 
 use crate::building::{build, dual};
+use crate::minors::minor;
 use crate::reading::run;
 use crate::sampling::sample;
 use crate::words::{Command, command_of};
@@ -21,6 +22,8 @@ use std::sync::ledger::Ledger;
 ///   of the job, one line for its header and one for each edit. `ReadFault` and `WriteFault` come only where the source or the sink
 ///   counted a fault in this call, and then a front of the output was written: after `ReadFault` exactly what is settled of the bytes
 ///   that were taken.
+/// - `minor` answers the job in the source likewise; its query is the one word `minor`, and each answer says whether the matroid of the
+///   present tree has that of the given matrix as a minor.
 /// - `sample` answers a job that it makes, and writes how many lines that gave, the first and the last. It reads nothing.
 /// - `build` answers the decomposition in the source with the header of the tree that is built for it, or with the refusal of its text.
 /// - `dual` likewise answers a header, which has no query, with the header of a tree of the dual matroid.
@@ -51,6 +54,7 @@ pub fn top<S: Source, K: Sink, L: Ledger>(
         Some(Command::Sample(numbers)) => sample(alloc, numbers, sink, steps),
         Some(Command::Build) => build(alloc, source, sink),
         Some(Command::Dual) => dual(alloc, source, sink),
+        Some(Command::Minor(matrix)) => minor(alloc, &matrix, source, sink, steps),
         Some(Command::NotBuilt) => write(b"refused not-built\n", Status::Refused, sink),
         None => write(b"refused usage\n", Status::Usage, sink),
     }

@@ -1,8 +1,9 @@
 //! The words of the command line, and what they ask for.
-ghost use Rattle.std.specs.Prelude.{◌≡◌, ◌≤◌, ◌==◌, length, map, string_bytes, IfSome};
+ghost use Rattle.std.specs.Prelude.{◌≡◌, ◌≤◌, ◌==◌, length, map, string_bytes, All, IfSome};
 ghost use Rattle.std.specs.List.{list_all};
+ghost use Rattle.mm_field.specs.Vectors.{AreDigits};
 ghost use Rattle.mm_lines.specs.Numbers.{number_of};
-ghost use Rattle.mm_cli.specs.Words.{IsWithinBounds, alone, command_of, field_within, is_matrix_over, is_small_matrix, limited, most_elements, most_limit, most_seed, not_built, number_within, sampled, with_joined, with_three, with_two};
+ghost use Rattle.mm_cli.specs.Words.{IsWithinBounds, alone, command_of, field_within, is_small_matrix, limited, minor_of, minor_over, most_elements, most_limit, most_seed, not_built, number_within, sampled, with_joined, with_three, with_two};
 
 use mm_field::Field;
 use mm_job_text::is_text;
@@ -29,6 +30,15 @@ pub struct SampleNumbers {
     pub seed: u32,
 }
 
+/// A matrix of 1 to 5 columns, whose matroid is sought as a minor.
+#[derive(Clone, Copy, Debug, PartialEq, Eq)]
+pub struct MinorMatrix {
+    /// The field of its digits.
+    pub field: Field,
+    /// Its rows: at least one, and all of one length.
+    pub rows: Gen,
+}
+
 /// What the words of the command line ask for.
 #[derive(Clone, Copy, Debug, PartialEq, Eq)]
 pub enum Command {
@@ -40,6 +50,8 @@ pub enum Command {
     Build,
     /// `dual`: a tree of the dual matroid of the tree in the source.
     Dual,
+    /// `minor`, with a matrix: the job in the source is answered, where the line `minor` asks for the matrix' matroid as a minor.
+    Minor(MinorMatrix),
     /// A command of the table that is not built yet.
     NotBuilt,
 }
@@ -158,16 +170,28 @@ fn field_within(word: &[u8]) -> Option<Field>
     }
 }
 
-/// Whether a word shows the rows of a matrix of 1 to 5 columns over a field.
-fn is_matrix_over(field: Option<Field>, rows: &[u8]) -> bool
-    ensures { result ≡ is_matrix_over field rows.now }
+/// `minor` with a matrix, where the rows are those of one with 1 to 5 columns.
+fn minor_of(f: Field, rows: Option<Gen>) -> Option<Command>
+    requires { IfSome rows (λ rows. All (λ v. AreDigits f v) rows) }
+    ensures command { result ≡ minor_of f rows }
+    ensures bounds { IfSome result IsWithinBounds }
 {
-    let Some(f) = field else {
-        return false;
-    };
-    match Gen::read(f, rows) {
-        Some(rows) => is_small_matrix(&rows),
-        None => false,
+    match rows {
+        Some(rows) if is_small_matrix(&rows) => {
+            Some(Command::Minor(MinorMatrix { field: f, rows }))
+        }
+        _ => None,
+    }
+}
+
+/// `minor` with the matrix over a field whose rows a word shows.
+fn minor_over(field: Option<Field>, rows: &[u8]) -> Option<Command>
+    ensures command { result ≡ minor_over field rows.now }
+    ensures bounds { IfSome result IsWithinBounds }
+{
+    match field {
+        Some(f) => minor_of(f, Gen::read(f, rows)),
+        None => None,
     }
 }
 
@@ -179,7 +203,10 @@ fn with_two(word: &[u8], first: &[u8], second: &[u8]) -> Option<Command>
     if is_text(word, b"run") && is_text(first, b"--limit") {
         return limited(number_within(1, MOST_LIMIT, second));
     }
-    not_built(is_text(word, b"minor") && is_matrix_over(field_within(first), second))
+    if is_text(word, b"minor") {
+        return minor_over(field_within(first), second);
+    }
+    None
 }
 
 /// `sample` with its numbers, where all are there.

@@ -20,10 +20,10 @@ use Rattle.mm_job_text.specs.declared.refusal.Limit.TheVariants as limit
 use Rattle.mm_job_text.specs.declared.refusal.Refusal.{Refusal}
 use Rattle.mm_job_text.specs.declared.refusal.Refusal.TheVariants as refusal
 
--- How a text asks: by a formula that its query line spells, or by the word `minor`, which stands for a formula that is given.
+-- How a text asks: by a query that its query line spells, or by the word `minor`, which stands for a query that is given.
 pub data Question : Type 0 where
   Spelled : Question
-  Minor : Syntax → Question
+  Minor : Query → Question
 
 -- The formula that the grammar derives from a text: a text derives one at most.
 unfoldable pub formula_of : List ℕ → Option Syntax
@@ -80,13 +80,17 @@ spelled_query r =
     else if begins (codes "least") r then least_query r
     else Err (refusal.Syntax r.number)
 
--- `minor`, which asks whether this formula holds
-unfoldable pub minor_query : Syntax → Line → Result Query Refusal
-minor_query F r = do
-  require (is_word (codes "minor") r) (refusal.Syntax r.number)
-  scoped r.number None F
+-- `minor`
+unfoldable pub minor_line : Line → Result (Unit {0}) Refusal
+minor_line r = require (is_word (codes "minor") r) (refusal.Syntax r.number)
+
+-- `minor`, which stands for this query
+unfoldable pub minor_query : Query → Line → Result Query Refusal
+minor_query query r = do
+  minor_line r
+  Ok query
 
 -- The query line.
 abbrev pub query_line : Question → Line → Result Query Refusal
 query_line Spelled r = spelled_query r
-query_line (Minor F) r = minor_query F r
+query_line (Minor query) r = minor_query query r

@@ -13,7 +13,7 @@ mod state;
 mod tree_lines;
 
 pub use agreement::match_rows;
-pub use query::{Question, read_query};
+pub use query::{read_minor, read_query};
 pub use rules::HeaderRules;
 pub use state::{HeaderData, HeaderState, HeaderStep, take_header_line};
 pub use tree_lines::Trees;

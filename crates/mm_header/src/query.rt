@@ -5,8 +5,9 @@ ghost use Rattle.mm_formula.specs.Scope.{outermost};
 ghost use Rattle.mm_formula.specs.Syntax.{is_well_sorted, syntax_of};
 ghost use Rattle.mm_formula.specs.Variables.{is_set};
 ghost use Rattle.mm_job_text.specs.Becoming.{Reads, StopsAs};
-ghost use Rattle.mm_header.specs.QueryValues.{IsSorted, query_value, question_value};
-ghost use Rattle.mm_header.specs.Queries.{formula_of, least_query, minor_query, query_line, query_of, scope_refusal, scoped, set_variable_of, spelled_query};
+ghost use Rattle.mm_header.specs.QueryValues.{query_value};
+ghost use Rattle.mm_header.specs.Queries.{formula_of, least_query, minor_line, query_line, query_of, scope_refusal, scoped, set_variable_of, spelled_query};
+ghost use Rattle.mm_header.specs.Queries.Question.{Spelled};
 ghost use Rattle.mm_job_text.specs.Checks.{found};
 ghost use Rattle.mm_job_text.specs.Readers.{whole};
 ghost use Rattle.mm_job_text.specs.declared.refusal.Refusal.TheVariants as refusal;
@@ -110,38 +111,27 @@ fn spelled_query(alloc: Global, line: &Line) -> Result<Scoped, Stop>
     Err(Stop::Refused(Refusal::Syntax(line.number)))
 }
 
-/// `minor`, which asks whether this formula holds.
-#[tactic(auto, unfolding(crate::specs::Queries::minor_query))]
-fn minor_query(alloc: Global, formula: Formula, line: &Line) -> Result<Scoped, Stop>
-    requires { is_well_sorted (syntax_of formula) ≡ true }
-    ensures { Reads query_value result (minor_query (syntax_of formula) line.now) }
-{
-    if !is_word(line, b"minor") {
-        return Err(Stop::Refused(Refusal::Syntax(line.number)));
-    }
-    scope(alloc, line.number, formula, None)
-}
-
-/// How a text asks.
-#[derive(Drop)]
-pub enum Question {
-    /// By the formula that its query line spells: `decide FORMULA` or `least X FORMULA`.
-    Spelled,
-    /// By the word `minor` as its query line, which asks whether this formula holds.
-    Minor(Formula),
-}
-
-/// Reads the query line of a text that asks so. Its refusals are those of a line that is too long, then of its form, then of the
-/// formula: its bytes, its grammar, its variables, its binders, its nodes.
-pub fn read_query(alloc: Global, question: Question, line: &Line) -> Result<Scoped, Stop>
-    requires { IsSorted question }
-    ensures { Reads query_value result (whole (query_line (question_value question)) line.now) }
+/// Reads the query line of a text whose query line spells its query. Its refusals are those of a line that is too long, then of its
+/// form, then of the formula: its bytes, its grammar, its variables, its binders, its nodes.
+pub fn read_query(alloc: Global, line: &Line) -> Result<Scoped, Stop>
+    ensures { Reads query_value result (whole (query_line Spelled) line.now) }
 {
     if let Some(refusal) = too_long(line) {
         return Err(Stop::Refused(refusal));
     }
-    match question {
-        Question::Spelled => spelled_query(alloc, line),
-        Question::Minor(formula) => minor_query(alloc, formula, line),
+    spelled_query(alloc, line)
+}
+
+/// Reads the query line of a text whose query is given: the word `minor`.
+#[tactic(auto, unfolding(crate::specs::Queries::minor_line))]
+pub fn read_minor(line: &Line) -> Result<(), Refusal>
+    ensures { result ≡ whole minor_line line.now }
+{
+    if let Some(refusal) = too_long(line) {
+        return Err(refusal);
     }
+    if !is_word(line, b"minor") {
+        return Err(Refusal::Syntax(line.number));
+    }
+    Ok(())
 }

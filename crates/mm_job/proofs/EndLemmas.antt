@@ -1,5 +1,5 @@
 -- What is said where no lines are left.
-use Rattle.std.specs.Prelude.{◌≡◌, refl, ℕ, Bool, [], Option, Some, None}
+use Rattle.std.specs.Prelude.{◌≡◌, refl, Bool, [], Option, Some, None}
 use Rattle.std.proofs.Common.{ap, ◌∙◌}
 use Rattle.mm_tree.specs.TreeValue.{TreeValue}
 use Rattle.mm_job_text.specs.Readers.{Reading, and_then, now}
@@ -19,13 +19,14 @@ use Rattle.mm_job.specs.Work.{items_work, work_after}
 use Rattle.mm_job.specs.declared.block.Block.{Block}
 use Rattle.mm_job.specs.declared.stage.Stage.{Stage}
 use Rattle.mm_job.specs.declared.stage.Stage.TheVariants as stage
+use Rattle.mm_job.specs.Settings.{Settings}
 
-pub end_head : (limit : ℕ) (h : HeaderState) (e : Ending) → lines_from_stage limit (stage.Header h) e [] ≡ cut_short e
-end_head limit h e = ap (λ (r : Reading Parts). lines_after_header e (and_then (and_then r (query_part limit)) (λ s. now (started s)))) (state_short job_rules h)
+pub end_head : (settings : Settings) (h : HeaderState) (e : Ending) → lines_from_stage settings (stage.Header h) e [] ≡ cut_short e
+end_head settings h e = ap (λ (r : Reading Parts). lines_after_header e (and_then (and_then r (query_part settings)) (λ s. now (started s)))) (state_short job_rules h)
 
-pub end_query : (limit : ℕ) (g : HeaderData) (t : TreeValue) (e : Ending) → lines_from_stage limit (stage.Query g t) e [] ≡ cut_short e
+pub end_query : (settings : Settings) (g : HeaderData) (t : TreeValue) (e : Ending) → lines_from_stage settings (stage.Query g t) e [] ≡ cut_short e
 unfolding query_part
-end_query limit g t e = refl
+end_query settings g t e = refl
 
 inside : (s : Session) (b : Block) (e : Ending) → lines_from_block e s (Some b) [] ≡ cut_short e
 unfolding rest_of_block
@@ -43,18 +44,18 @@ end_between s b over known is same =
     ap (λ (o : Option Block). lines_from_block (end_by over) s o []) is ∙ between s (end_by over) ∙ ap (λ (c : Bool). at_rest (end_by c)) same
 
 -- where more may come, nothing is said
-pub quiet : (limit : ℕ) (s : Stage) → lines_from_stage limit s More [] ≡ []
-quiet limit (stage.Header h) = end_head limit h More
-quiet limit (stage.Query g t) = end_query limit g t More
-quiet limit (stage.Items s (Some b)) = inside (session_of s) b More
-quiet limit (stage.Items s None) = between (session_of s) More
-quiet limit stage.Refused = refl
+pub quiet : (settings : Settings) (s : Stage) → lines_from_stage settings s More [] ≡ []
+quiet settings (stage.Header h) = end_head settings h More
+quiet settings (stage.Query g t) = end_query settings g t More
+quiet settings (stage.Items s (Some b)) = inside (session_of s) b More
+quiet settings (stage.Items s None) = between (session_of s) More
+quiet settings stage.Refused = refl
 
 -- no lines are no work
-pub nothing_left : (limit : ℕ) (s : Stage) → work_from_stage limit s [] ≡ 0
+pub nothing_left : (settings : Settings) (s : Stage) → work_from_stage settings s [] ≡ 0
 unfolding query_part rest_of_block items items_work
-nothing_left limit (stage.Header h) = ap (λ (r : Reading Parts). work_after (and_then r (query_part limit))) (state_short job_rules h)
-nothing_left limit (stage.Query g t) = refl
-nothing_left limit (stage.Items s (Some b)) = refl
-nothing_left limit (stage.Items s None) = refl
-nothing_left limit stage.Refused = refl
+nothing_left settings (stage.Header h) = ap (λ (r : Reading Parts). work_after (and_then r (query_part settings))) (state_short job_rules h)
+nothing_left settings (stage.Query g t) = refl
+nothing_left settings (stage.Items s (Some b)) = refl
+nothing_left settings (stage.Items s None) = refl
+nothing_left settings stage.Refused = refl

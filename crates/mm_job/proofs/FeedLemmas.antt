@@ -22,6 +22,7 @@ use Rattle.mm_job.specs.State.Stages.{lines_from_stage}
 use Rattle.mm_job.specs.declared.state.JobState.{JobState}
 use Rattle.mm_job.specs.declared.progress.JobFault.{JobFault}
 use Rattle.mm_job.specs.declared.output_line.OutputLine.{OutputLine}
+use Rattle.mm_job.specs.Settings.{Settings}
 
 -- ---- the lines that are left
 
@@ -70,45 +71,45 @@ come_on status (x ∷ xs) ys = come_on (after_output_line status x) xs ys
 pub nothing_written : (held : Option (List ℕ)) (bs : List ℕ) → GrowsByFront held held bs
 nothing_written held bs = (0, Appends-nil held)
 
-pub fed_nothing : (limit : ℕ) (state : JobState) (lines : List Line) (held : Option (List ℕ)) → Fed limit state state lines lines held held
-fed_nothing limit state lines held = record { outputs = []; grew = Appends-nil held; same = λ e rs. refl; comes = refl }
+pub fed_nothing : (settings : Settings) (state : JobState) (lines : List Line) (held : Option (List ℕ)) → Fed settings state state lines lines held held
+fed_nothing settings state lines held = record { outputs = []; grew = Appends-nil held; same = λ e rs. refl; comes = refl }
 
 printed_on : (held held_new : Option (List ℕ)) (xs ys : List OutputLine) → Appends held held_new (printed_all xs ++ printed_all ys) → Appends held held_new (printed_all (xs ++ ys))
 printed_on held held_new xs ys h = subst (λ (l : List ℕ). Appends held held_new l) (sym (flat_map-append printed xs ys)) h
 
 -- one step and more
-pub fed_trans : (limit : ℕ) (a b c : JobState) (lines lines_now lines_after : List Line) (held held_now held_after : Option (List ℕ))
-    → Fed limit a b lines lines_now held held_now → Fed limit b c lines_now lines_after held_now held_after → Fed limit a c lines lines_after held held_after
-fed_trans limit a b c lines lines_now lines_after held held_now held_after p q =
+pub fed_trans : (settings : Settings) (a b c : JobState) (lines lines_now lines_after : List Line) (held held_now held_after : Option (List ℕ))
+    → Fed settings a b lines lines_now held held_now → Fed settings b c lines_now lines_after held_now held_after → Fed settings a c lines lines_after held held_after
+fed_trans settings a b c lines lines_now lines_after held held_now held_after p q =
     record {
       outputs = p.outputs ++ q.outputs;
       grew = printed_on held held_after p.outputs q.outputs (Appends-trans held held_now held_after (printed_all p.outputs) (printed_all q.outputs) p.grew q.grew);
-      same = λ e rs. p.same e rs ∙ ap (λ (l : List OutputLine). p.outputs ++ l) (q.same e rs) ∙ sym (append_assoc p.outputs q.outputs (lines_from_stage limit c.stage e (lines_after ++ rs)));
+      same = λ e rs. p.same e rs ∙ ap (λ (l : List OutputLine). p.outputs ++ l) (q.same e rs) ∙ sym (append_assoc p.outputs q.outputs (lines_from_stage settings c.stage e (lines_after ++ rs)));
       comes = q.comes ∙ ap (λ (s : Option Status). come_to s q.outputs) p.comes ∙ sym (come_on a.status p.outputs q.outputs);
     }
 
 -- what is written of the lines is what is written of the first of them and what is written after it
-written_on : (limit : ℕ) (old new : JobState) (lines lines_now : List Line) (held held_now : Option (List ℕ)) → (fed : Fed limit old new lines lines_now held held_now)
-    → (e : Ending) → printed_all (lines_from_stage limit old.stage e lines) ≡ printed_all fed.outputs ++ printed_all (lines_from_stage limit new.stage e lines_now)
-written_on limit old new lines lines_now held held_now fed e =
-    ap (λ (l : List Line). printed_all (lines_from_stage limit old.stage e l)) (sym (append-nil lines)) ∙ ap printed_all (fed.same e [])
-    ∙ ap (λ (l : List Line). printed_all (fed.outputs ++ lines_from_stage limit new.stage e l)) (append-nil lines_now) ∙ flat_map-append printed fed.outputs (lines_from_stage limit new.stage e lines_now)
+written_on : (settings : Settings) (old new : JobState) (lines lines_now : List Line) (held held_now : Option (List ℕ)) → (fed : Fed settings old new lines lines_now held held_now)
+    → (e : Ending) → printed_all (lines_from_stage settings old.stage e lines) ≡ printed_all fed.outputs ++ printed_all (lines_from_stage settings new.stage e lines_now)
+written_on settings old new lines lines_now held held_now fed e =
+    ap (λ (l : List Line). printed_all (lines_from_stage settings old.stage e l)) (sym (append-nil lines)) ∙ ap printed_all (fed.same e [])
+    ∙ ap (λ (l : List Line). printed_all (fed.outputs ++ lines_from_stage settings new.stage e l)) (append-nil lines_now) ∙ flat_map-append printed fed.outputs (lines_from_stage settings new.stage e lines_now)
 
 -- what was written before, and a front of what is written then
-pub front_then : (limit : ℕ) (old new : JobState) (lines lines_now : List Line) (held held_now held_after : Option (List ℕ)) → Fed limit old new lines lines_now held held_now
-    → ((e : Ending) → GrowsByFront held_now held_after (printed_all (lines_from_stage limit new.stage e lines_now)))
-    → (e : Ending) → GrowsByFront held held_after (printed_all (lines_from_stage limit old.stage e lines))
-front_then limit old new lines lines_now held held_now held_after fed grew e =
-    subst (λ (l : List ℕ). GrowsByFront held held_after l) (sym (written_on limit old new lines lines_now held held_now fed e))
-    (front_after held held_now held_after (printed_all fed.outputs) (printed_all (lines_from_stage limit new.stage e lines_now)) fed.grew (grew e))
+pub front_then : (settings : Settings) (old new : JobState) (lines lines_now : List Line) (held held_now held_after : Option (List ℕ)) → Fed settings old new lines lines_now held held_now
+    → ((e : Ending) → GrowsByFront held_now held_after (printed_all (lines_from_stage settings new.stage e lines_now)))
+    → (e : Ending) → GrowsByFront held held_after (printed_all (lines_from_stage settings old.stage e lines))
+front_then settings old new lines lines_now held held_now held_after fed grew e =
+    subst (λ (l : List ℕ). GrowsByFront held held_after l) (sym (written_on settings old new lines lines_now held held_now fed e))
+    (front_after held held_now held_after (printed_all fed.outputs) (printed_all (lines_from_stage settings new.stage e lines_now)) fed.grew (grew e))
 
 -- a front of what is said of a line was written
-pub front_line : (limit : ℕ) (old new : JobState) (r : Line) (output_line : List OutputLine) (held held_new : Option (List ℕ))
-    → ((e : Ending) (rs : List Line) → lines_from_stage limit old.stage e (r ∷ rs) ≡ output_line ++ lines_from_stage limit new.stage e rs)
-    → GrowsByFront held held_new (printed_all output_line) → (e : Ending) (rs : List Line) → GrowsByFront held held_new (printed_all (lines_from_stage limit old.stage e (r ∷ rs)))
-front_line limit old new r output_line held held_new step grew e rs =
-    subst (λ (l : List ℕ). GrowsByFront held held_new l) (sym (ap printed_all (step e rs) ∙ flat_map-append printed output_line (lines_from_stage limit new.stage e rs)))
-    (front_more held held_new (printed_all output_line) (printed_all (lines_from_stage limit new.stage e rs)) grew)
+pub front_line : (settings : Settings) (old new : JobState) (r : Line) (output_line : List OutputLine) (held held_new : Option (List ℕ))
+    → ((e : Ending) (rs : List Line) → lines_from_stage settings old.stage e (r ∷ rs) ≡ output_line ++ lines_from_stage settings new.stage e rs)
+    → GrowsByFront held held_new (printed_all output_line) → (e : Ending) (rs : List Line) → GrowsByFront held held_new (printed_all (lines_from_stage settings old.stage e (r ∷ rs)))
+front_line settings old new r output_line held held_new step grew e rs =
+    subst (λ (l : List ℕ). GrowsByFront held held_new l) (sym (ap printed_all (step e rs) ∙ flat_map-append printed output_line (lines_from_stage settings new.stage e rs)))
+    (front_more held held_new (printed_all output_line) (printed_all (lines_from_stage settings new.stage e rs)) grew)
 
 -- what holds anyway holds of an error
 pub on_err : {X E P : Type 0} (r : Result X E) → P → OnErr r P
@@ -129,11 +130,11 @@ cause_after a b c r h cause = record { later = omega (arith, h, cause.later); fa
 
 -- ---- the first of the lines that are left
 
-pub front_left : (limit : ℕ) (state : JobState) (held held_new : Option (List ℕ)) (all : List Line) (r : Line) (rs : List Line) → all ≡ r ∷ rs
-    → ((e : Ending) (rs : List Line) → GrowsByFront held held_new (printed_all (lines_from_stage limit state.stage e (r ∷ rs))))
-    → (e : Ending) → GrowsByFront held held_new (printed_all (lines_from_stage limit state.stage e all))
-front_left limit state held held_new all r rs is h e = subst (λ (l : List Line). GrowsByFront held held_new (printed_all (lines_from_stage limit state.stage e l))) (sym is) (h e rs)
+pub front_left : (settings : Settings) (state : JobState) (held held_new : Option (List ℕ)) (all : List Line) (r : Line) (rs : List Line) → all ≡ r ∷ rs
+    → ((e : Ending) (rs : List Line) → GrowsByFront held held_new (printed_all (lines_from_stage settings state.stage e (r ∷ rs))))
+    → (e : Ending) → GrowsByFront held held_new (printed_all (lines_from_stage settings state.stage e all))
+front_left settings state held held_new all r rs is h e = subst (λ (l : List Line). GrowsByFront held held_new (printed_all (lines_from_stage settings state.stage e l))) (sym is) (h e rs)
 
-pub fed_left : (limit : ℕ) (old new : JobState) (held held_new : Option (List ℕ)) (all : List Line) (r : Line) (rs : List Line) → all ≡ r ∷ rs
-    → ((rs : List Line) → Fed limit old new (r ∷ rs) rs held held_new) → Fed limit old new all rs held held_new
-fed_left limit old new held held_new all r rs is h = subst (λ (l : List Line). Fed limit old new l rs held held_new) (sym is) (h rs)
+pub fed_left : (settings : Settings) (old new : JobState) (held held_new : Option (List ℕ)) (all : List Line) (r : Line) (rs : List Line) → all ≡ r ∷ rs
+    → ((rs : List Line) → Fed settings old new (r ∷ rs) rs held held_new) → Fed settings old new all rs held held_new
+fed_left settings old new held held_new all r rs is h = subst (λ (l : List Line). Fed settings old new l rs held held_new) (sym is) (h rs)

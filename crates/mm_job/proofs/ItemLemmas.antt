@@ -1,5 +1,5 @@
 -- What is written for some lines is a front of what is written for these and more.
-use Rattle.std.specs.Prelude.{◌≡◌, refl, ℕ, Bool, true, false, List, [], ◌∷◌, ◌++◌, Some, None, if◌then◌else◌}
+use Rattle.std.specs.Prelude.{◌≡◌, refl, Bool, true, false, List, [], ◌∷◌, ◌++◌, Some, None, if◌then◌else◌}
 use Rattle.std.proofs.Common.{sym, subst, ap}
 use Rattle.mm_lines.specs.Fronts.{IsFront}
 use Rattle.mm_lines.specs.declared.line.Line.{Line}
@@ -9,6 +9,7 @@ use Rattle.mm_job.specs.Edits.{single, block}
 use Rattle.mm_job.specs.Header.{Session, header}
 use Rattle.mm_job.specs.Items.{Items, Single, Block, Rest, items, rest_of_block, opens, closes, after_line, block_of}
 use Rattle.mm_job.specs.Output.{Ending, More, lines_of_items, lines_after_header, written_lines, reply_line, after_reply, answered}
+use Rattle.mm_job.specs.Settings.{Settings}
 use Rattle.mm_job.proofs.HeaderLemmas.{header_steady}
 
 pub front_of_none : {A : Type 0} (ys : List A) → IsFront [] ys
@@ -66,6 +67,6 @@ after_goes_on e more (Refused why) b p = subst (λ r. IsFront (lines_after_heade
 after_goes_on e more Short b p = front_of_none _
 
 -- the lines that are written for some lines are the first of those for these and more
-pub written_goes_on : (limit : ℕ) (e : Ending) (rs more : List Line) → IsFront (written_lines limit More rs) (written_lines limit e (rs ++ more))
+pub written_goes_on : (settings : Settings) (e : Ending) (rs more : List Line) → IsFront (written_lines settings More rs) (written_lines settings e (rs ++ more))
 unfolding written_lines
-written_goes_on limit e rs more = after_goes_on e more (header limit rs) (header limit (rs ++ more)) (header_steady limit rs more)
+written_goes_on settings e rs more = after_goes_on e more (header settings rs) (header settings (rs ++ more)) (header_steady settings rs more)

@@ -23,8 +23,8 @@ use Rattle.mm_job.specs.Edits.{block, single}
 use Rattle.mm_job.specs.State.Stages.{lines_from_stage, work_from_stage}
 use Rattle.mm_job.specs.State.Standing.{IsRead, Stands, work_at, written_at}
 use Rattle.mm_job.specs.Calls.{SpendsOnText}
+use Rattle.mm_job.specs.Settings.{Settings}
 use Rattle.mm_job.specs.Work.{bound_of, settled_work, work}
-use Rattle.mm_nodes.specs.declared.TheConstants.{MAX_LIMIT}
 use Rattle.mm_job.specs.declared.state.JobState.{JobState}
 use Rattle.mm_header.specs.declared.state.HeaderState.TheVariants as heads
 use Rattle.mm_job.specs.declared.progress.Progress.{Progress}
@@ -46,30 +46,30 @@ first_lines : lines_of false [] ≡ []
 unfolding lines_of
 first_lines = refl
 
-first_of_all : (limit : ℕ) (e : Ending) (rs : List Line) → written_lines limit e rs ≡ lines_from_stage limit (stages.Header heads.Format) e rs
+first_of_all : (settings : Settings) (e : Ending) (rs : List Line) → written_lines settings e rs ≡ lines_from_stage settings (stages.Header heads.Format) e rs
 unfolding written_lines header header_lines
-first_of_all limit e rs = refl
+first_of_all settings e rs = refl
 
-work_of_all : (limit : ℕ) (rs : List Line) → work limit rs ≡ work_from_stage limit (stages.Header heads.Format) rs
+work_of_all : (settings : Settings) (rs : List Line) → work settings rs ≡ work_from_stage settings (stages.Header heads.Format) rs
 unfolding work header_lines
-work_of_all limit rs = refl
+work_of_all settings rs = refl
 
-quiet_first : (limit : ℕ) → written_lines limit More (settled []) ≡ []
-quiet_first limit = ap (written_lines limit More) no_lines ∙ first_of_all limit More [] ∙ quiet limit (stages.Header heads.Format)
+quiet_first : (settings : Settings) → written_lines settings More (settled []) ≡ []
+quiet_first settings = ap (written_lines settings More) no_lines ∙ first_of_all settings More [] ∙ quiet settings (stages.Header heads.Format)
 
-pub stands_first : (limit : ℕ) (state : JobState) → state ≡ record { stage = stages.Header heads.Format; status = None } → Stands limit [] state
-stands_first limit state is =
-    subst (λ (c : JobState). Stands limit [] c) (sym is)
+pub stands_first : (settings : Settings) (state : JobState) → state ≡ record { stage = stages.Header heads.Format; status = None } → Stands settings [] state
+stands_first settings state is =
+    subst (λ (c : JobState). Stands settings [] c) (sym is)
     (record {
       kept = tt;
-      rest = λ e rs. ap (λ (l : List Line). written_lines limit e (l ++ rs)) no_lines ∙ first_of_all limit e rs
-          ∙ ap (λ (l : List OutputLine). l ++ lines_from_stage limit (stages.Header heads.Format) e rs) (sym (quiet_first limit));
+      rest = λ e rs. ap (λ (l : List Line). written_lines settings e (l ++ rs)) no_lines ∙ first_of_all settings e rs
+          ∙ ap (λ (l : List OutputLine). l ++ lines_from_stage settings (stages.Header heads.Format) e rs) (sym (quiet_first settings));
       works = λ rs.
-          let all : work limit (settled [] ++ rs) ≡ work_from_stage limit (stages.Header heads.Format) rs =
-          ap (λ (l : List Line). work limit (l ++ rs)) no_lines ∙ work_of_all limit rs in
-          let none : work_at limit [] ≡ 0 = ap (work limit) no_lines ∙ work_of_all limit [] ∙ nothing_left limit (stages.Header heads.Format) in
+          let all : work settings (settled [] ++ rs) ≡ work_from_stage settings (stages.Header heads.Format) rs =
+          ap (λ (l : List Line). work settings (l ++ rs)) no_lines ∙ work_of_all settings rs in
+          let none : work_at settings [] ≡ 0 = ap (work settings) no_lines ∙ work_of_all settings [] ∙ nothing_left settings (stages.Header heads.Format) in
           omega (arith, all, none);
-      comes = ap (come_to None) (sym (quiet_first limit));
+      comes = ap (come_to None) (sym (quiet_first settings));
     })
 
 -- ---- a text that is used as a whole
@@ -77,25 +77,25 @@ stands_first limit state is =
 progress_by : Bool → Bool → Progress
 progress_by refused over = if refused then progresses.Ended status.Refused else if over then progresses.Ended status.EditRefused else progresses.More
 
-progress_is : (text : List ℕ) (limit : ℕ) (output_line : List OutputLine) (over : Bool) → settled_lines text limit ≡ output_line → is_over text ≡ over → progress text limit ≡ progress_by (begins_refused output_line) over
+progress_is : (text : List ℕ) (settings : Settings) (output_line : List OutputLine) (over : Bool) → settled_lines text settings ≡ output_line → is_over text ≡ over → progress text settings ≡ progress_by (begins_refused output_line) over
 unfolding progress_by
-progress_is text limit output_line over is same =
+progress_is text settings output_line over is same =
     ap₂ (λ (a b : Bool). if a then progresses.Ended status.Refused else if b then progresses.Ended status.EditRefused else progresses.More) (ap begins_refused is) same
 
-of_status : (text : List ℕ) (limit : ℕ) (b : JobState) → length text ≤ most_bytes → Stands limit text b → progress text limit ≡ progress_by (is_refused b.status) false
-of_status text limit b size stands =
-    progress_is text limit (written_lines limit More (settled text)) false (settled_at limit text size) (not_over text size)
-    ∙ ap (λ (c : Bool). progress_by c false) (sym (refused_is (written_lines limit More (settled text))) ∙ ap is_refused (sym stands.comes))
+of_status : (text : List ℕ) (settings : Settings) (b : JobState) → length text ≤ most_bytes → Stands settings text b → progress text settings ≡ progress_by (is_refused b.status) false
+of_status text settings b size stands =
+    progress_is text settings (written_lines settings More (settled text)) false (settled_at settings text size) (not_over text size)
+    ∙ ap (λ (c : Bool). progress_by c false) (sym (refused_is (written_lines settings More (settled text))) ∙ ap is_refused (sym stands.comes))
 
-pub ended_refused : (text : List ℕ) (limit : ℕ) (b : JobState) (c : Bool) → length text ≤ most_bytes → Stands limit text b → c ≡ is_refused b.status → c ≡ true
-    → progresses.Ended status.Refused ≡ progress text limit
+pub ended_refused : (text : List ℕ) (settings : Settings) (b : JobState) (c : Bool) → length text ≤ most_bytes → Stands settings text b → c ≡ is_refused b.status → c ≡ true
+    → progresses.Ended status.Refused ≡ progress text settings
 unfolding progress_by
-ended_refused text limit b c size stands is written_so = sym (of_status text limit b size stands ∙ ap (λ (d : Bool). progress_by d false) (sym is ∙ written_so))
+ended_refused text settings b c size stands is written_so = sym (of_status text settings b size stands ∙ ap (λ (d : Bool). progress_by d false) (sym is ∙ written_so))
 
-pub goes_further : (text : List ℕ) (limit : ℕ) (b : JobState) (c : Bool) → length text ≤ most_bytes → Stands limit text b → c ≡ is_refused b.status → c ≡ false
-    → progresses.More ≡ progress text limit
+pub goes_further : (text : List ℕ) (settings : Settings) (b : JobState) (c : Bool) → length text ≤ most_bytes → Stands settings text b → c ≡ is_refused b.status → c ≡ false
+    → progresses.More ≡ progress text settings
 unfolding progress_by
-goes_further text limit b c size stands is written_so = sym (of_status text limit b size stands ∙ ap (λ (d : Bool). progress_by d false) (sym is ∙ written_so))
+goes_further text settings b c size stands is written_so = sym (of_status text settings b size stands ∙ ap (λ (d : Bool). progress_by d false) (sym is ∙ written_so))
 
 pub whole_piece : (text piece : List ℕ) → length text + length piece ≤ most_bytes → with_piece text piece ≡ text ++ piece
 whole_piece text piece size = take_all (most_bytes + 1) (text ++ piece) (omega (arith, size, length-append text piece))
@@ -114,9 +114,9 @@ after_end (Read s rest) = ap (λ (c : Bool). if c then status.EditRefused else s
 after_end (Refused why) = refl
 after_end Short = refl
 
-over_status : (limit : ℕ) (rs : List Line) → status_of (written_lines limit Over rs) ≡ (if begins_refused (written_lines limit Over rs) then status.Refused else status.EditRefused)
+over_status : (settings : Settings) (rs : List Line) → status_of (written_lines settings Over rs) ≡ (if begins_refused (written_lines settings Over rs) then status.Refused else status.EditRefused)
 unfolding written_lines
-over_status limit rs = after_end (header limit rs)
+over_status settings rs = after_end (header settings rs)
 
 -- the part of the piece that is used
 abbrev used : List ℕ → List ℕ → List ℕ
@@ -140,92 +140,91 @@ long_over : (text piece : List ℕ) → length text ≤ most_bytes → most_byte
 long_over text piece size long =
     lt-ltb most_bytes (length (with_piece text piece)) (omega (arith, size, long, length-append text piece, length-take (most_bytes + 1) (text ++ piece)))
 
-long_lines : (limit : ℕ) (text piece : List ℕ) → length text ≤ most_bytes → most_bytes - length text < length piece
-    → settled_lines (with_piece text piece) limit ≡ written_lines limit Over (settled (text ++ used text piece))
+long_lines : (settings : Settings) (text piece : List ℕ) → length text ≤ most_bytes → most_bytes - length text < length piece
+    → settled_lines (with_piece text piece) settings ≡ written_lines settings Over (settled (text ++ used text piece))
 unfolding settled_lines
-long_lines limit text piece size long =
-    ap (λ (c : Bool). written_lines limit (if c then Over else More) (settled (with_piece text piece))) (long_over text piece size long) ∙ ap (written_lines limit Over) (long_settled text piece size long)
+long_lines settings text piece size long =
+    ap (λ (c : Bool). written_lines settings (if c then Over else More) (settled (with_piece text piece))) (long_over text piece size long) ∙ ap (written_lines settings Over) (long_settled text piece size long)
 
-pub long_output : (limit : ℕ) (text piece : List ℕ) → length text ≤ most_bytes → most_bytes - length text < length piece
-    → settled_output (with_piece text piece) limit ≡ written_at Over limit (text ++ take (most_bytes - length text) piece)
-long_output limit text piece size long = ap printed_all (long_lines limit text piece size long)
+pub long_output : (settings : Settings) (text piece : List ℕ) → length text ≤ most_bytes → most_bytes - length text < length piece
+    → settled_output (with_piece text piece) settings ≡ written_at Over settings (text ++ take (most_bytes - length text) piece)
+long_output settings text piece size long = ap printed_all (long_lines settings text piece size long)
 
 ended_by : (refused : Bool) (s : Status) → s ≡ (if refused then status.Refused else status.EditRefused) → progresses.Ended s ≡ progress_by refused true
 unfolding progress_by
 ended_by true s h = ap progresses.Ended h
 ended_by false s h = ap progresses.Ended h
 
-pub long_progress : (limit : ℕ) (text piece : List ℕ) → length text ≤ most_bytes → most_bytes - length text < length piece
-    → progresses.Ended (status_of (written_lines limit Over (settled (text ++ take (most_bytes - length text) piece)))) ≡ progress (with_piece text piece) limit
-long_progress limit text piece size long =
-    let output_line = written_lines limit Over (settled (text ++ used text piece)) in
-    ended_by (begins_refused output_line) (status_of output_line) (over_status limit (settled (text ++ used text piece)))
-    ∙ sym (progress_is (with_piece text piece) limit output_line true (long_lines limit text piece size long) (long_over text piece size long))
+pub long_progress : (settings : Settings) (text piece : List ℕ) → length text ≤ most_bytes → most_bytes - length text < length piece
+    → progresses.Ended (status_of (written_lines settings Over (settled (text ++ take (most_bytes - length text) piece)))) ≡ progress (with_piece text piece) settings
+long_progress settings text piece size long =
+    let output_line = written_lines settings Over (settled (text ++ used text piece)) in
+    ended_by (begins_refused output_line) (status_of output_line) (over_status settings (settled (text ++ used text piece)))
+    ∙ sym (progress_is (with_piece text piece) settings output_line true (long_lines settings text piece size long) (long_over text piece size long))
 
 -- ---- the fields of a job, and what callers see
 
 pub live_of : (i : Inside) (s : JobValue) → state_of i ≡ s → s.live ≡ true → IsJob i → IsLive i
 live_of i s view live kept = kept (ap (λ (v : JobValue). v.live) view ∙ live)
 
-pub first_live : (i : Inside) → i.limit ≤ MAX_LIMIT → i.taken ≡ 0 → i.framer ≡ record { bytes = []; ended = false; handed = 0 } → i.state ≡ record { stage = stages.Header heads.Format; status = None } → IsLive i
-first_live i limited none framer state =
+pub first_live : (i : Inside) → i.taken ≡ 0 → i.framer ≡ record { bytes = []; ended = false; handed = 0 } → i.state ≡ record { stage = stages.Header heads.Format; status = None } → IsLive i
+first_live i none framer state =
     let empty : i.framer.bytes ≡ [] = ap (λ (s : Stream). s.bytes) framer in
     record {
       taken = none ∙ ap length (sym empty);
       size = omega (arith, ap length empty);
       stream = subst IsRead (sym framer) (record { open_ended = refl; all = sym (ap length first_lines) });
-      limited = limited;
-      stands = subst (λ (l : List ℕ). Stands i.limit l i.state) (sym empty) (stands_first i.limit i.state state);
+      stands = subst (λ (l : List ℕ). Stands i.settings l i.state) (sym empty) (stands_first i.settings i.state state);
     }
 
 -- what holds of the written bytes of the fields holds of the output of the state
-pub of_state : (R : List ℕ → List ℕ → Type 0) (after : ℕ → List ℕ → List ℕ) (i : Inside) (s : JobValue) → state_of i ≡ s → length i.framer.bytes ≤ most_bytes
-    → R (written_at More i.limit i.framer.bytes) (after i.limit i.framer.bytes) → R (settled_output s.text s.limit) (after s.limit s.text)
+pub of_state : (R : List ℕ → List ℕ → Type 0) (after : Settings → List ℕ → List ℕ) (i : Inside) (s : JobValue) → state_of i ≡ s → length i.framer.bytes ≤ most_bytes
+    → R (written_at More i.settings i.framer.bytes) (after i.settings i.framer.bytes) → R (settled_output s.text s.settings) (after s.settings s.text)
 of_state R after i s view size h =
-    subst (λ (v : JobValue). R (settled_output v.text v.limit) (after v.limit v.text)) view
-    (subst (λ (l : List ℕ). R l (after i.limit i.framer.bytes)) (sym (settled_output_at i.limit i.framer.bytes size)) h)
+    subst (λ (v : JobValue). R (settled_output v.text v.settings) (after v.settings v.text)) view
+    (subst (λ (l : List ℕ). R l (after i.settings i.framer.bytes)) (sym (settled_output_at i.settings i.framer.bytes size)) h)
 
 size_of : (i : Inside) (s : JobValue) (piece : List ℕ) → state_of i ≡ s → length s.text + length piece ≤ most_bytes → length i.framer.bytes + length piece ≤ most_bytes
 size_of i s piece view size = omega (arith, size, ap (λ (v : JobValue). length v.text) view)
 
 pub all_of_state : (R : List ℕ → List ℕ → Type 0) (piece : List ℕ) (i : Inside) (s : JobValue) → state_of i ≡ s → length s.text + length piece ≤ most_bytes
-    → R (written_at More i.limit i.framer.bytes) (written_at More i.limit (i.framer.bytes ++ piece)) → R (settled_output s.text s.limit) (settled_output (s.text ++ piece) s.limit)
+    → R (written_at More i.settings i.framer.bytes) (written_at More i.settings (i.framer.bytes ++ piece)) → R (settled_output s.text s.settings) (settled_output (s.text ++ piece) s.settings)
 all_of_state R piece i s view size h =
     let small = size_of i s piece view size in
     let text = i.framer.bytes in
-    of_state R (λ limit text. settled_output (text ++ piece) limit) i s view (omega (arith, small))
-    (subst (λ (l : List ℕ). R (written_at More i.limit text) l) (sym (settled_output_at i.limit (text ++ piece) (omega (arith, small, length-append text piece)))) h)
+    of_state R (λ settings text. settled_output (text ++ piece) settings) i s view (omega (arith, small))
+    (subst (λ (l : List ℕ). R (written_at More i.settings text) l) (sym (settled_output_at i.settings (text ++ piece) (omega (arith, small, length-append text piece)))) h)
 
 pub last_of_state : (R : List ℕ → List ℕ → Type 0) (piece : List ℕ) (i : Inside) (s : JobValue) → state_of i ≡ s → length s.text + length piece ≤ most_bytes
-    → R (written_at More i.limit i.framer.bytes) (written_at Over i.limit (i.framer.bytes ++ piece)) → R (settled_output s.text s.limit) (written_at Over s.limit (s.text ++ piece))
+    → R (written_at More i.settings i.framer.bytes) (written_at Over i.settings (i.framer.bytes ++ piece)) → R (settled_output s.text s.settings) (written_at Over s.settings (s.text ++ piece))
 last_of_state R piece i s view size h =
     let small = size_of i s piece view size in
-    of_state R (λ limit text. written_at Over limit (text ++ piece)) i s view (omega (arith, small)) h
+    of_state R (λ settings text. written_at Over settings (text ++ piece)) i s view (omega (arith, small)) h
 
 -- what holds of the work by the fields holds of it as callers see it
 pub work_of_state : (piece : List ℕ) (i : Inside) (s : JobValue) (steps steps_new : ℕ) → state_of i ≡ s
-    → SpendsOnText steps steps_new (work_at i.limit i.framer.bytes) (work_at i.limit (i.framer.bytes ++ piece))
-    → SpendsOnText steps steps_new (settled_work s.text s.limit) (settled_work (s.text ++ piece) s.limit)
+    → SpendsOnText steps steps_new (work_at i.settings i.framer.bytes) (work_at i.settings (i.framer.bytes ++ piece))
+    → SpendsOnText steps steps_new (settled_work s.text s.settings) (settled_work (s.text ++ piece) s.settings)
 work_of_state piece i s steps steps_new view h =
-    subst (λ (v : JobValue). SpendsOnText steps steps_new (settled_work v.text v.limit) (settled_work (v.text ++ piece) v.limit)) view h
+    subst (λ (v : JobValue). SpendsOnText steps steps_new (settled_work v.text v.settings) (settled_work (v.text ++ piece) v.settings)) view h
 
 pub bound_of_state : (i : Inside) (s : JobValue) (steps steps_new : ℕ) → state_of i ≡ s
-    → SpendsOnText steps steps_new (work_at i.limit i.framer.bytes) (bound_of i.framer.bytes i.limit)
-    → SpendsOnText steps steps_new (settled_work s.text s.limit) (bound_of s.text s.limit)
+    → SpendsOnText steps steps_new (work_at i.settings i.framer.bytes) (bound_of i.framer.bytes i.settings)
+    → SpendsOnText steps steps_new (settled_work s.text s.settings) (bound_of s.text s.settings)
 bound_of_state i s steps steps_new view h =
-    subst (λ (v : JobValue). SpendsOnText steps steps_new (settled_work v.text v.limit) (bound_of v.text v.limit)) view h
+    subst (λ (v : JobValue). SpendsOnText steps steps_new (settled_work v.text v.settings) (bound_of v.text v.settings)) view h
 
 pub state_refused : (piece : List ℕ) (i : Inside) (s : JobValue) (b : JobState) (c : Bool) → state_of i ≡ s → length s.text + length piece ≤ most_bytes
-    → Stands i.limit (i.framer.bytes ++ piece) b → c ≡ is_refused b.status → c ≡ true → progresses.Ended status.Refused ≡ progress (s.text ++ piece) s.limit
+    → Stands i.settings (i.framer.bytes ++ piece) b → c ≡ is_refused b.status → c ≡ true → progresses.Ended status.Refused ≡ progress (s.text ++ piece) s.settings
 state_refused piece i s b c view size stands is written_so =
     let small = size_of i s piece view size in
-    ended_refused (i.framer.bytes ++ piece) i.limit b c (omega (arith, small, length-append i.framer.bytes piece)) stands is written_so ∙ ap (λ (v : JobValue). progress (v.text ++ piece) v.limit) view
+    ended_refused (i.framer.bytes ++ piece) i.settings b c (omega (arith, small, length-append i.framer.bytes piece)) stands is written_so ∙ ap (λ (v : JobValue). progress (v.text ++ piece) v.settings) view
 
 pub state_goes_on : (piece : List ℕ) (i : Inside) (s : JobValue) (b : JobState) (c : Bool) → state_of i ≡ s → length s.text + length piece ≤ most_bytes
-    → Stands i.limit (i.framer.bytes ++ piece) b → c ≡ is_refused b.status → c ≡ false → progresses.More ≡ progress (s.text ++ piece) s.limit
+    → Stands i.settings (i.framer.bytes ++ piece) b → c ≡ is_refused b.status → c ≡ false → progresses.More ≡ progress (s.text ++ piece) s.settings
 state_goes_on piece i s b c view size stands is written_so =
     let small = size_of i s piece view size in
-    goes_further (i.framer.bytes ++ piece) i.limit b c (omega (arith, small, length-append i.framer.bytes piece)) stands is written_so ∙ ap (λ (v : JobValue). progress (v.text ++ piece) v.limit) view
+    goes_further (i.framer.bytes ++ piece) i.settings b c (omega (arith, small, length-append i.framer.bytes piece)) stands is written_so ∙ ap (λ (v : JobValue). progress (v.text ++ piece) v.settings) view
 
 -- ---- results
 
@@ -247,21 +246,21 @@ room_of i s view live kept =
     record { size = omega (arith, l.size, l.taken, same); is = ap (λ (k : ℕ). most_bytes - k) same }
 
 pub last_progress : (s : JobValue) (room : ℕ) (piece : List ℕ) → Room s room → room < length piece
-    → progresses.Ended (status_of (written_lines s.limit Over (settled (s.text ++ take room piece)))) ≡ progress (with_piece s.text piece) s.limit
+    → progresses.Ended (status_of (written_lines s.settings Over (settled (s.text ++ take room piece)))) ≡ progress (with_piece s.text piece) s.settings
 last_progress s room piece r long =
-    ap (λ (k : ℕ). progresses.Ended (status_of (written_lines s.limit Over (settled (s.text ++ take k piece))))) r.is
-    ∙ long_progress s.limit s.text piece r.size (omega (arith, long, r.is))
+    ap (λ (k : ℕ). progresses.Ended (status_of (written_lines s.settings Over (settled (s.text ++ take k piece))))) r.is
+    ∙ long_progress s.settings s.text piece r.size (omega (arith, long, r.is))
 
 pub last_output : (s : JobValue) (room : ℕ) (piece : List ℕ) → Room s room → room < length piece
-    → written_at Over s.limit (s.text ++ take room piece) ≡ settled_output (with_piece s.text piece) s.limit
+    → written_at Over s.settings (s.text ++ take room piece) ≡ settled_output (with_piece s.text piece) s.settings
 last_output s room piece r long =
-    ap (λ (k : ℕ). written_at Over s.limit (s.text ++ take k piece)) r.is ∙ sym (long_output s.limit s.text piece r.size (omega (arith, long, r.is)))
+    ap (λ (k : ℕ). written_at Over s.settings (s.text ++ take k piece)) r.is ∙ sym (long_output s.settings s.text piece r.size (omega (arith, long, r.is)))
 
 pub last_work : (s : JobValue) (room : ℕ) (piece : List ℕ) → Room s room → room < length piece
-    → settled_work (s.text ++ take room piece) s.limit ≡ settled_work (with_piece s.text piece) s.limit
+    → settled_work (s.text ++ take room piece) s.settings ≡ settled_work (with_piece s.text piece) s.settings
 last_work s room piece r long =
-    ap (λ (k : ℕ). settled_work (s.text ++ take k piece) s.limit) r.is
-    ∙ ap (work s.limit) (sym (long_settled s.text piece r.size (omega (arith, long, r.is))))
+    ap (λ (k : ℕ). settled_work (s.text ++ take k piece) s.settings) r.is
+    ∙ ap (work s.settings) (sym (long_settled s.text piece r.size (omega (arith, long, r.is))))
 
 pub fits : (s : JobValue) (room : ℕ) (piece : List ℕ) → Room s room → length piece ≤ room → with_piece s.text piece ≡ s.text ++ piece
 fits s room piece r short = whole_piece s.text piece (omega (arith, short, r.is, r.size))
@@ -272,22 +271,22 @@ status_in : Progress → Status
 status_in progresses.More = status.Done
 status_in (progresses.Ended s) = s
 
-over_now : (limit : ℕ) (a : List ℕ) (r : Reading Session) → header limit (settled a) ≡ r → is_over a ≡ true → end_of a limit ≡ status_of (lines_after_header Over r)
+over_now : (settings : Settings) (a : List ℕ) (r : Reading Session) → header settings (settled a) ≡ r → is_over a ≡ true → end_of a settings ≡ status_of (lines_after_header Over r)
 unfolding written_lines
-over_now limit a r is over = over_end limit a over ∙ ap (λ (x : Reading Session). status_of (lines_after_header Over x)) is
+over_now settings a r is over = over_end settings a over ∙ ap (λ (x : Reading Session). status_of (lines_after_header Over x)) is
 
-final_by : (limit : ℕ) (a b : List ℕ) (s : Status) (r : Reading Session) (over : Bool) → header limit (settled a) ≡ r → is_over a ≡ over
-    → progress_by (begins_refused (lines_after_header (if over then Over else More) r)) over ≡ progresses.Ended s → IsFinal limit a b × (end_of a limit ≡ s)
+final_by : (settings : Settings) (a b : List ℕ) (s : Status) (r : Reading Session) (over : Bool) → header settings (settled a) ≡ r → is_over a ≡ over
+    → progress_by (begins_refused (lines_after_header (if over then Over else More) r)) over ≡ progresses.Ended s → IsFinal settings a b × (end_of a settings ≡ s)
 unfolding progress_by status_in
-final_by limit a b s (Refused why) true is same h = (refused_is_final limit a b (why, is), refused_end limit a (why, is) ∙ ap status_in h)
-final_by limit a b s (Refused why) false is same h = (refused_is_final limit a b (why, is), refused_end limit a (why, is) ∙ ap status_in h)
-final_by limit a b s Short true is same h = (over_is_final limit a b same, over_now limit a Short is same ∙ ap status_in h)
-final_by limit a b s Short false is same h = absurd (let n : progresses.More ≡ progresses.Ended s = h in cc)
-final_by limit a b s (Read t rest) true is same h = (over_is_final limit a b same, over_now limit a (Read t rest) is same ∙ after_end (Read t rest) ∙ ap status_in h)
-final_by limit a b s (Read t rest) false is same h = absurd (let n : progresses.More ≡ progresses.Ended s = h in cc)
+final_by settings a b s (Refused why) true is same h = (refused_is_final settings a b (why, is), refused_end settings a (why, is) ∙ ap status_in h)
+final_by settings a b s (Refused why) false is same h = (refused_is_final settings a b (why, is), refused_end settings a (why, is) ∙ ap status_in h)
+final_by settings a b s Short true is same h = (over_is_final settings a b same, over_now settings a Short is same ∙ ap status_in h)
+final_by settings a b s Short false is same h = absurd (let n : progresses.More ≡ progresses.Ended s = h in cc)
+final_by settings a b s (Read t rest) true is same h = (over_is_final settings a b same, over_now settings a (Read t rest) is same ∙ after_end (Read t rest) ∙ ap status_in h)
+final_by settings a b s (Read t rest) false is same h = absurd (let n : progresses.More ≡ progresses.Ended s = h in cc)
 
-pub ended_is_final : (limit : ℕ) (a b : List ℕ) (s : Status) → progress a limit ≡ progresses.Ended s → IsFinal limit a b × (end_of a limit ≡ s)
+pub ended_is_final : (settings : Settings) (a b : List ℕ) (s : Status) → progress a settings ≡ progresses.Ended s → IsFinal settings a b × (end_of a settings ≡ s)
 unfolding written_lines settled_lines
-ended_is_final limit a b s h =
-    final_by limit a b s (header limit (settled a)) (is_over a) refl refl
-    (sym (progress_is a limit (written_lines limit (if is_over a then Over else More) (settled a)) (is_over a) refl refl) ∙ h)
+ended_is_final settings a b s h =
+    final_by settings a b s (header settings (settled a)) (is_over a) refl refl
+    (sym (progress_is a settings (written_lines settings (if is_over a then Over else More) (settled a)) (is_over a) refl refl) ∙ h)

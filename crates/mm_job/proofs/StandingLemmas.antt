@@ -28,6 +28,7 @@ use Rattle.mm_job.specs.State.Standing.{IsRead, Stands, work_at, written_at}
 use Rattle.mm_job.specs.Work.{bound_of, work}
 use Rattle.mm_job.specs.declared.state.JobState.{JobState}
 use Rattle.mm_job.specs.declared.output_line.OutputLine.{OutputLine}
+use Rattle.mm_job.specs.Settings.{Settings}
 use Rattle.mm_job.proofs.EndLemmas.{nothing_left, quiet}
 use Rattle.mm_job.proofs.WorkLemmas.{work_grows}
 use Rattle.mm_job.proofs.FeedLemmas.{come_on, nothing_written}
@@ -49,17 +50,17 @@ lines_is : (text : List ℕ) → length text ≤ most_bytes → lines text ≡ l
 unfolding lines
 lines_is text h = ap (λ (c : Bool). lines_of (not c) (take most_bytes text)) (not_over text h) ∙ ap (lines_of true) (take_all most_bytes text h)
 
-pub settled_at : (limit : ℕ) (text : List ℕ) → length text ≤ most_bytes → settled_lines text limit ≡ written_lines limit More (settled text)
+pub settled_at : (settings : Settings) (text : List ℕ) → length text ≤ most_bytes → settled_lines text settings ≡ written_lines settings More (settled text)
 unfolding settled_lines
-settled_at limit text h = ap (λ (c : Bool). written_lines limit (if c then Over else More) (settled text)) (not_over text h)
+settled_at settings text h = ap (λ (c : Bool). written_lines settings (if c then Over else More) (settled text)) (not_over text h)
 
-pub settled_output_at : (limit : ℕ) (text : List ℕ) → length text ≤ most_bytes → settled_output text limit ≡ written_at More limit text
-settled_output_at limit text h = ap printed_all (settled_at limit text h)
+pub settled_output_at : (settings : Settings) (text : List ℕ) → length text ≤ most_bytes → settled_output text settings ≡ written_at More settings text
+settled_output_at settings text h = ap printed_all (settled_at settings text h)
 
-output_at : (limit : ℕ) (text : List ℕ) → length text ≤ most_bytes → output_lines text limit ≡ written_lines limit Ended (lines_of true text)
+output_at : (settings : Settings) (text : List ℕ) → length text ≤ most_bytes → output_lines text settings ≡ written_lines settings Ended (lines_of true text)
 unfolding output_lines
-output_at limit text h =
-    ap (λ (c : Bool). written_lines limit (if c then Over else Ended) (lines text)) (not_over text h) ∙ ap (written_lines limit Ended) (lines_is text h)
+output_at settings text h =
+    ap (λ (c : Bool). written_lines settings (if c then Over else Ended) (lines text)) (not_over text h) ∙ ap (written_lines settings Ended) (lines_is text h)
 
 -- ---- lines of a stream that goes on
 
@@ -84,98 +85,98 @@ all_read s going within none =
 -- ---- steps
 
 -- what is said of all lines of a longer text, by what was fed
-output_line_on : (limit : ℕ) (text : List ℕ) (a b : JobState) (all new lines_new : List Line) (held held_new : Option (List ℕ)) → Stands limit text a → (fed : Fed limit a b new lines_new held held_new)
+output_line_on : (settings : Settings) (text : List ℕ) (a b : JobState) (all new lines_new : List Line) (held held_new : Option (List ℕ)) → Stands settings text a → (fed : Fed settings a b new lines_new held held_new)
     → lines_new ≡ [] → all ≡ settled text ++ new
-    → (e : Ending) (rs : List Line) → written_lines limit e (all ++ rs) ≡ (written_lines limit More (settled text) ++ fed.outputs) ++ lines_from_stage limit b.stage e rs
-output_line_on limit text a b all new lines_new held held_new stands fed none is e rs =
-    let T = written_lines limit More (settled text) in
-    ap (λ (l : List Line). written_lines limit e (l ++ rs)) is
-    ∙ ap (written_lines limit e) (append_assoc (settled text) new rs)
+    → (e : Ending) (rs : List Line) → written_lines settings e (all ++ rs) ≡ (written_lines settings More (settled text) ++ fed.outputs) ++ lines_from_stage settings b.stage e rs
+output_line_on settings text a b all new lines_new held held_new stands fed none is e rs =
+    let T = written_lines settings More (settled text) in
+    ap (λ (l : List Line). written_lines settings e (l ++ rs)) is
+    ∙ ap (written_lines settings e) (append_assoc (settled text) new rs)
     ∙ stands.rest e (new ++ rs)
-    ∙ ap (λ (l : List OutputLine). T ++ l) (fed.same e rs ∙ ap (λ (l : List Line). fed.outputs ++ lines_from_stage limit b.stage e (l ++ rs)) none)
-    ∙ sym (append_assoc T fed.outputs (lines_from_stage limit b.stage e rs))
+    ∙ ap (λ (l : List OutputLine). T ++ l) (fed.same e rs ∙ ap (λ (l : List Line). fed.outputs ++ lines_from_stage settings b.stage e (l ++ rs)) none)
+    ∙ sym (append_assoc T fed.outputs (lines_from_stage settings b.stage e rs))
 
-output_line_now : (limit : ℕ) (text : List ℕ) (a b : JobState) (all new lines_new : List Line) (held held_new : Option (List ℕ)) → Stands limit text a → (fed : Fed limit a b new lines_new held held_new)
-    → lines_new ≡ [] → all ≡ settled text ++ new → (e : Ending) → written_lines limit e all ≡ (written_lines limit More (settled text) ++ fed.outputs) ++ lines_from_stage limit b.stage e []
-output_line_now limit text a b all new lines_new held held_new stands fed none is e =
-    ap (written_lines limit e) (sym (append-nil all)) ∙ output_line_on limit text a b all new lines_new held held_new stands fed none is e []
+output_line_now : (settings : Settings) (text : List ℕ) (a b : JobState) (all new lines_new : List Line) (held held_new : Option (List ℕ)) → Stands settings text a → (fed : Fed settings a b new lines_new held held_new)
+    → lines_new ≡ [] → all ≡ settled text ++ new → (e : Ending) → written_lines settings e all ≡ (written_lines settings More (settled text) ++ fed.outputs) ++ lines_from_stage settings b.stage e []
+output_line_now settings text a b all new lines_new held held_new stands fed none is e =
+    ap (written_lines settings e) (sym (append-nil all)) ∙ output_line_on settings text a b all new lines_new held held_new stands fed none is e []
 
-output_line_quiet : (limit : ℕ) (text : List ℕ) (a b : JobState) (all new lines_new : List Line) (held held_new : Option (List ℕ)) → Stands limit text a → (fed : Fed limit a b new lines_new held held_new)
-    → lines_new ≡ [] → all ≡ settled text ++ new → written_lines limit More all ≡ written_lines limit More (settled text) ++ fed.outputs
-output_line_quiet limit text a b all new lines_new held held_new stands fed none is =
-    let X = written_lines limit More (settled text) ++ fed.outputs in
-    output_line_now limit text a b all new lines_new held held_new stands fed none is More ∙ ap (λ (l : List OutputLine). X ++ l) (quiet limit b.stage) ∙ append-nil X
+output_line_quiet : (settings : Settings) (text : List ℕ) (a b : JobState) (all new lines_new : List Line) (held held_new : Option (List ℕ)) → Stands settings text a → (fed : Fed settings a b new lines_new held held_new)
+    → lines_new ≡ [] → all ≡ settled text ++ new → written_lines settings More all ≡ written_lines settings More (settled text) ++ fed.outputs
+output_line_quiet settings text a b all new lines_new held held_new stands fed none is =
+    let X = written_lines settings More (settled text) ++ fed.outputs in
+    output_line_now settings text a b all new lines_new held held_new stands fed none is More ∙ ap (λ (l : List OutputLine). X ++ l) (quiet settings b.stage) ∙ append-nil X
 
 -- ---- the work of all lines of a longer text
 
-works_on : (limit : ℕ) (text : List ℕ) (a b : JobState) (all new lines_new : List Line) (steps steps_new : ℕ) → Stands limit text a
-    → (spent : Spends (work_from_stage limit a.stage) (work_from_stage limit b.stage) new lines_new steps steps_new)
-    → lines_new ≡ [] → all ≡ settled text ++ new → (rs : List Line) → work limit (all ++ rs) ≡ (work_at limit text + spent.work) + work_from_stage limit b.stage rs
-works_on limit text a b all new lines_new steps steps_new stands spent none is rs =
-    let whole : work limit (all ++ rs) ≡ work_at limit text + work_from_stage limit a.stage (new ++ rs) =
-    ap (λ (l : List Line). work limit (l ++ rs)) is ∙ ap (work limit) (append_assoc (settled text) new rs) ∙ stands.works (new ++ rs) in
-    let rest : work_from_stage limit a.stage (new ++ rs) ≡ spent.work + work_from_stage limit b.stage rs =
-    spent.same rs ∙ ap (λ (l : List Line). spent.work + work_from_stage limit b.stage (l ++ rs)) none in
+works_on : (settings : Settings) (text : List ℕ) (a b : JobState) (all new lines_new : List Line) (steps steps_new : ℕ) → Stands settings text a
+    → (spent : Spends (work_from_stage settings a.stage) (work_from_stage settings b.stage) new lines_new steps steps_new)
+    → lines_new ≡ [] → all ≡ settled text ++ new → (rs : List Line) → work settings (all ++ rs) ≡ (work_at settings text + spent.work) + work_from_stage settings b.stage rs
+works_on settings text a b all new lines_new steps steps_new stands spent none is rs =
+    let whole : work settings (all ++ rs) ≡ work_at settings text + work_from_stage settings a.stage (new ++ rs) =
+    ap (λ (l : List Line). work settings (l ++ rs)) is ∙ ap (work settings) (append_assoc (settled text) new rs) ∙ stands.works (new ++ rs) in
+    let rest : work_from_stage settings a.stage (new ++ rs) ≡ spent.work + work_from_stage settings b.stage rs =
+    spent.same rs ∙ ap (λ (l : List Line). spent.work + work_from_stage settings b.stage (l ++ rs)) none in
     omega (arith, whole, rest)
 
-works_now : (limit : ℕ) (text : List ℕ) (a b : JobState) (all new lines_new : List Line) (steps steps_new : ℕ) → Stands limit text a
-    → (spent : Spends (work_from_stage limit a.stage) (work_from_stage limit b.stage) new lines_new steps steps_new)
-    → lines_new ≡ [] → all ≡ settled text ++ new → work limit all ≡ work_at limit text + spent.work
-works_now limit text a b all new lines_new steps steps_new stands spent none is =
-    let whole = works_on limit text a b all new lines_new steps steps_new stands spent none is [] in
-    let same : work limit all ≡ work limit (all ++ []) = ap (work limit) (sym (append-nil all)) in
-    let left_none = nothing_left limit b.stage in
+works_now : (settings : Settings) (text : List ℕ) (a b : JobState) (all new lines_new : List Line) (steps steps_new : ℕ) → Stands settings text a
+    → (spent : Spends (work_from_stage settings a.stage) (work_from_stage settings b.stage) new lines_new steps steps_new)
+    → lines_new ≡ [] → all ≡ settled text ++ new → work settings all ≡ work_at settings text + spent.work
+works_now settings text a b all new lines_new steps steps_new stands spent none is =
+    let whole = works_on settings text a b all new lines_new steps steps_new stands spent none is [] in
+    let same : work settings all ≡ work settings (all ++ []) = ap (work settings) (sym (append-nil all)) in
+    let left_none = nothing_left settings b.stage in
     omega (arith, whole, same, left_none)
 
 -- the steps that were taken for the lines that a text has more
-pub spent_more : {X E : Type 0} (limit : ℕ) (text : List ℕ) (a b : JobState) (all new lines_new : List Line) (r : Result X E) (steps steps_new : ℕ) → Stands limit text a
+pub spent_more : {X E : Type 0} (settings : Settings) (text : List ℕ) (a b : JobState) (all new lines_new : List Line) (r : Result X E) (steps steps_new : ℕ) → Stands settings text a
     → all ≡ settled text ++ new → OnOk r (lines_new ≡ [])
-    → OnOk r (Spends (work_from_stage limit a.stage) (work_from_stage limit b.stage) new lines_new steps steps_new)
-    → OnErr r (SpendsAtMost (work_from_stage limit a.stage) new steps steps_new)
-    → SpendsOnText steps steps_new (work_at limit text) (work limit all)
-spent_more limit text a b all new lines_new (Ok x) steps steps_new stands is none spent most =
-    let now = works_now limit text a b all new lines_new steps steps_new stands spent none is in
+    → OnOk r (Spends (work_from_stage settings a.stage) (work_from_stage settings b.stage) new lines_new steps steps_new)
+    → OnErr r (SpendsAtMost (work_from_stage settings a.stage) new steps steps_new)
+    → SpendsOnText steps steps_new (work_at settings text) (work settings all)
+spent_more settings text a b all new lines_new (Ok x) steps steps_new stands is none spent most =
+    let now = works_now settings text a b all new lines_new steps steps_new stands spent none is in
     let within = spent.within in
     omega (arith, now, within)
-spent_more limit text a b all new lines_new (Err e) steps steps_new stands is none spent most =
-    let now : work limit all ≡ work_at limit text + work_from_stage limit a.stage new = ap (work limit) is ∙ stands.works new in
-    let few : steps_new ≤ steps + work_from_stage limit a.stage new =
-    subst (λ (l : List Line). steps_new ≤ steps + work_from_stage limit a.stage l) (append-nil new) (most []) in
+spent_more settings text a b all new lines_new (Err e) steps steps_new stands is none spent most =
+    let now : work settings all ≡ work_at settings text + work_from_stage settings a.stage new = ap (work settings) is ∙ stands.works new in
+    let few : steps_new ≤ steps + work_from_stage settings a.stage new =
+    subst (λ (l : List Line). steps_new ≤ steps + work_from_stage settings a.stage l) (append-nil new) (most []) in
     omega (arith, now, few)
 
-pub stands_next : (limit : ℕ) (text whole : List ℕ) (a b : JobState) (new lines_new : List Line) (held held_new : Option (List ℕ)) (steps steps_new : ℕ) → Stands limit text a
-    → Fed limit a b new lines_new held held_new → Spends (work_from_stage limit a.stage) (work_from_stage limit b.stage) new lines_new steps steps_new
-    → lines_new ≡ [] → settled whole ≡ settled text ++ new → IsKeptAt b.stage → Stands limit whole b
-stands_next limit text whole a b new lines_new held held_new steps steps_new stands fed spent none is kept =
-    let T = written_lines limit More (settled text) in
-    let now = output_line_quiet limit text a b (settled whole) new lines_new held held_new stands fed none is in
+pub stands_next : (settings : Settings) (text whole : List ℕ) (a b : JobState) (new lines_new : List Line) (held held_new : Option (List ℕ)) (steps steps_new : ℕ) → Stands settings text a
+    → Fed settings a b new lines_new held held_new → Spends (work_from_stage settings a.stage) (work_from_stage settings b.stage) new lines_new steps steps_new
+    → lines_new ≡ [] → settled whole ≡ settled text ++ new → IsKeptAt b.stage → Stands settings whole b
+stands_next settings text whole a b new lines_new held held_new steps steps_new stands fed spent none is kept =
+    let T = written_lines settings More (settled text) in
+    let now = output_line_quiet settings text a b (settled whole) new lines_new held held_new stands fed none is in
     record {
       kept = kept;
-      rest = λ e rs. output_line_on limit text a b (settled whole) new lines_new held held_new stands fed none is e rs
-          ∙ ap (λ (l : List OutputLine). l ++ lines_from_stage limit b.stage e rs) (sym now);
+      rest = λ e rs. output_line_on settings text a b (settled whole) new lines_new held held_new stands fed none is e rs
+          ∙ ap (λ (l : List OutputLine). l ++ lines_from_stage settings b.stage e rs) (sym now);
       works = λ rs.
-          let all = works_on limit text a b (settled whole) new lines_new steps steps_new stands spent none is rs in
-          let so_far = works_now limit text a b (settled whole) new lines_new steps steps_new stands spent none is in
+          let all = works_on settings text a b (settled whole) new lines_new steps steps_new stands spent none is rs in
+          let so_far = works_now settings text a b (settled whole) new lines_new steps steps_new stands spent none is in
           omega (arith, all, so_far);
       comes = fed.comes ∙ ap (λ (s : Option Status). come_to s fed.outputs) stands.comes ∙ sym (come_on None T fed.outputs) ∙ ap (come_to None) (sym now);
     }
 
-grew_next : (limit : ℕ) (text whole : List ℕ) (a b : JobState) (new lines_new : List Line) (held held_new : Option (List ℕ)) → Stands limit text a → Fed limit a b new lines_new held held_new
-    → lines_new ≡ [] → settled whole ≡ settled text ++ new → Grew held held_new (written_at More limit text) (written_at More limit whole)
-grew_next limit text whole a b new lines_new held held_new stands fed none is =
+grew_next : (settings : Settings) (text whole : List ℕ) (a b : JobState) (new lines_new : List Line) (held held_new : Option (List ℕ)) → Stands settings text a → Fed settings a b new lines_new held held_new
+    → lines_new ≡ [] → settled whole ≡ settled text ++ new → Grew held held_new (written_at More settings text) (written_at More settings whole)
+grew_next settings text whole a b new lines_new held held_new stands fed none is =
     record {
       wrote = printed_all fed.outputs;
       grew = fed.grew;
-      whole = sym (flat_map-append printed (written_lines limit More (settled text)) fed.outputs) ∙ ap printed_all (sym (output_line_quiet limit text a b (settled whole) new lines_new held held_new stands fed none is));
+      whole = sym (flat_map-append printed (written_lines settings More (settled text)) fed.outputs) ∙ ap printed_all (sym (output_line_quiet settings text a b (settled whole) new lines_new held held_new stands fed none is));
     }
 
-front_next : (limit : ℕ) (text : List ℕ) (a : JobState) (all new : List Line) (held held_new : Option (List ℕ)) (e : Ending) → Stands limit text a → all ≡ settled text ++ new
-    → GrowsByFront held held_new (printed_all (lines_from_stage limit a.stage e new)) → GrewByFront held held_new (written_at More limit text) (printed_all (written_lines limit e all))
-front_next limit text a all new held held_new e stands is grew =
+front_next : (settings : Settings) (text : List ℕ) (a : JobState) (all new : List Line) (held held_new : Option (List ℕ)) (e : Ending) → Stands settings text a → all ≡ settled text ++ new
+    → GrowsByFront held held_new (printed_all (lines_from_stage settings a.stage e new)) → GrewByFront held held_new (written_at More settings text) (printed_all (written_lines settings e all))
+front_next settings text a all new held held_new e stands is grew =
     record {
-      rest = printed_all (lines_from_stage limit a.stage e new);
+      rest = printed_all (lines_from_stage settings a.stage e new);
       grew = grew;
-      whole = sym (flat_map-append printed (written_lines limit More (settled text)) (lines_from_stage limit a.stage e new)) ∙ ap printed_all (sym (ap (written_lines limit e) is ∙ stands.rest e new));
+      whole = sym (flat_map-append printed (written_lines settings More (settled text)) (lines_from_stage settings a.stage e new)) ∙ ap printed_all (sym (ap (written_lines settings e) is ∙ stands.rest e new));
     }
 
 -- ---- a piece
@@ -194,34 +195,34 @@ pub piece_within : (old mid : Stream) (piece : List ℕ) → IsRead old → mid 
 piece_within old mid piece read is =
     subst IsWithin (sym (is ∙ ap (λ (c : Bool). record old { bytes = old.bytes ++ piece; ended = c }) read.open_ended)) (more_within old false piece read)
 
-pub piece_stands : {E : Type 0} (limit : ℕ) (old mid new : Stream) (piece : List ℕ) (a c : JobState) (r : Result (Unit {0}) E) (held held_new : Option (List ℕ)) (steps steps_new : ℕ)
-    → Stands limit old.bytes a → IsRead old → length old.bytes + length piece ≤ most_bytes → mid ≡ record old { bytes = old.bytes ++ piece }
-    → OnOk r (Fed limit a c (left mid) (left new) held held_new)
-    → OnOk r (Spends (work_from_stage limit a.stage) (work_from_stage limit c.stage) (left mid) (left new) steps steps_new)
-    → OnOk r (left new ≡ []) → IfOk r (λ u. IsKeptAt c.stage) → OnOk r (Stands limit (old.bytes ++ piece) c)
-piece_stands limit old mid new piece a c (Ok u) held held_new steps steps_new stands read size is fed spent none kept =
-    stands_next limit old.bytes (old.bytes ++ piece) a c (left mid) (left new) held held_new steps steps_new stands fed spent none (piece_lines old mid piece read size is) kept
-piece_stands limit old mid new piece a c (Err e) held held_new steps steps_new stands read size is fed spent none kept = tt
+pub piece_stands : {E : Type 0} (settings : Settings) (old mid new : Stream) (piece : List ℕ) (a c : JobState) (r : Result (Unit {0}) E) (held held_new : Option (List ℕ)) (steps steps_new : ℕ)
+    → Stands settings old.bytes a → IsRead old → length old.bytes + length piece ≤ most_bytes → mid ≡ record old { bytes = old.bytes ++ piece }
+    → OnOk r (Fed settings a c (left mid) (left new) held held_new)
+    → OnOk r (Spends (work_from_stage settings a.stage) (work_from_stage settings c.stage) (left mid) (left new) steps steps_new)
+    → OnOk r (left new ≡ []) → IfOk r (λ u. IsKeptAt c.stage) → OnOk r (Stands settings (old.bytes ++ piece) c)
+piece_stands settings old mid new piece a c (Ok u) held held_new steps steps_new stands read size is fed spent none kept =
+    stands_next settings old.bytes (old.bytes ++ piece) a c (left mid) (left new) held held_new steps steps_new stands fed spent none (piece_lines old mid piece read size is) kept
+piece_stands settings old mid new piece a c (Err e) held held_new steps steps_new stands read size is fed spent none kept = tt
 
-pub piece_spent : {X E : Type 0} (limit : ℕ) (old mid new : Stream) (piece : List ℕ) (a c : JobState) (r : Result X E) (steps steps_new : ℕ)
-    → Stands limit old.bytes a → IsRead old → length old.bytes + length piece ≤ most_bytes → mid ≡ record old { bytes = old.bytes ++ piece }
-    → OnOk r (left new ≡ []) → OnOk r (Spends (work_from_stage limit a.stage) (work_from_stage limit c.stage) (left mid) (left new) steps steps_new)
-    → OnErr r (SpendsAtMost (work_from_stage limit a.stage) (left mid) steps steps_new)
-    → SpendsOnText steps steps_new (work_at limit old.bytes) (work_at limit (old.bytes ++ piece))
-piece_spent limit old mid new piece a c r steps steps_new stands read size is none spent most =
-    spent_more limit old.bytes a c (settled (old.bytes ++ piece)) (left mid) (left new) r steps steps_new stands (piece_lines old mid piece read size is) none spent most
+pub piece_spent : {X E : Type 0} (settings : Settings) (old mid new : Stream) (piece : List ℕ) (a c : JobState) (r : Result X E) (steps steps_new : ℕ)
+    → Stands settings old.bytes a → IsRead old → length old.bytes + length piece ≤ most_bytes → mid ≡ record old { bytes = old.bytes ++ piece }
+    → OnOk r (left new ≡ []) → OnOk r (Spends (work_from_stage settings a.stage) (work_from_stage settings c.stage) (left mid) (left new) steps steps_new)
+    → OnErr r (SpendsAtMost (work_from_stage settings a.stage) (left mid) steps steps_new)
+    → SpendsOnText steps steps_new (work_at settings old.bytes) (work_at settings (old.bytes ++ piece))
+piece_spent settings old mid new piece a c r steps steps_new stands read size is none spent most =
+    spent_more settings old.bytes a c (settled (old.bytes ++ piece)) (left mid) (left new) r steps steps_new stands (piece_lines old mid piece read size is) none spent most
 
 -- without a step
-pub piece_unspent : (limit : ℕ) (text piece : List ℕ) (steps : ℕ) → SpendsOnText steps steps (work_at limit text) (work_at limit (text ++ piece))
-piece_unspent limit text piece steps = let more = (work_grows limit text piece).longer in omega (arith, more)
+pub piece_unspent : (settings : Settings) (text piece : List ℕ) (steps : ℕ) → SpendsOnText steps steps (work_at settings text) (work_at settings (text ++ piece))
+piece_unspent settings text piece steps = let more = (work_grows settings text piece).longer in omega (arith, more)
 
-pub piece_grew : {E : Type 0} (limit : ℕ) (old mid new : Stream) (piece : List ℕ) (a c : JobState) (r : Result (Unit {0}) E) (held held_new : Option (List ℕ))
-    → Stands limit old.bytes a → IsRead old → length old.bytes + length piece ≤ most_bytes → mid ≡ record old { bytes = old.bytes ++ piece }
-    → OnOk r (Fed limit a c (left mid) (left new) held held_new) → OnOk r (left new ≡ [])
-    → OnOk r (Grew held held_new (written_at More limit old.bytes) (written_at More limit (old.bytes ++ piece)))
-piece_grew limit old mid new piece a c (Ok u) held held_new stands read size is fed none =
-    grew_next limit old.bytes (old.bytes ++ piece) a c (left mid) (left new) held held_new stands fed none (piece_lines old mid piece read size is)
-piece_grew limit old mid new piece a c (Err e) held held_new stands read size is fed none = tt
+pub piece_grew : {E : Type 0} (settings : Settings) (old mid new : Stream) (piece : List ℕ) (a c : JobState) (r : Result (Unit {0}) E) (held held_new : Option (List ℕ))
+    → Stands settings old.bytes a → IsRead old → length old.bytes + length piece ≤ most_bytes → mid ≡ record old { bytes = old.bytes ++ piece }
+    → OnOk r (Fed settings a c (left mid) (left new) held held_new) → OnOk r (left new ≡ [])
+    → OnOk r (Grew held held_new (written_at More settings old.bytes) (written_at More settings (old.bytes ++ piece)))
+piece_grew settings old mid new piece a c (Ok u) held held_new stands read size is fed none =
+    grew_next settings old.bytes (old.bytes ++ piece) a c (left mid) (left new) held held_new stands fed none (piece_lines old mid piece read size is)
+piece_grew settings old mid new piece a c (Err e) held held_new stands read size is fed none = tt
 
 pub piece_read : {X E : Type 0} (old mid new : Stream) (piece : List ℕ) (r : Result X E) → IsRead old → mid ≡ record old { bytes = old.bytes ++ piece }
     → new.ended ≡ mid.ended → IsWithin new → OnOk r (left new ≡ []) → OnOk r (IsRead new)
@@ -229,22 +230,22 @@ piece_read old mid new piece (Ok x) read is ended within none = all_read new (en
 piece_read old mid new piece (Err e) read is ended within none = tt
 
 -- a front of what the piece settles was written
-pub piece_front : {X E : Type 0} (limit : ℕ) (old mid : Stream) (piece : List ℕ) (a : JobState) (r : Result X E) (held held_new : Option (List ℕ))
-    → Stands limit old.bytes a → IsRead old → length old.bytes + length piece ≤ most_bytes → mid ≡ record old { bytes = old.bytes ++ piece }
-    → OnErr r ((e : Ending) → GrowsByFront held held_new (printed_all (lines_from_stage limit a.stage e (left mid))))
-    → OnErr r ((e : Ending) → GrewByFront held held_new (written_at More limit old.bytes) (written_at e limit (old.bytes ++ piece)))
-piece_front limit old mid piece a (Ok x) held held_new stands read size is grew = tt
-piece_front limit old mid piece a (Err x) held held_new stands read size is grew = λ e.
-    front_next limit old.bytes a (settled (old.bytes ++ piece)) (left mid) held held_new e stands (piece_lines old mid piece read size is) (grew e)
+pub piece_front : {X E : Type 0} (settings : Settings) (old mid : Stream) (piece : List ℕ) (a : JobState) (r : Result X E) (held held_new : Option (List ℕ))
+    → Stands settings old.bytes a → IsRead old → length old.bytes + length piece ≤ most_bytes → mid ≡ record old { bytes = old.bytes ++ piece }
+    → OnErr r ((e : Ending) → GrowsByFront held held_new (printed_all (lines_from_stage settings a.stage e (left mid))))
+    → OnErr r ((e : Ending) → GrewByFront held held_new (written_at More settings old.bytes) (written_at e settings (old.bytes ++ piece)))
+piece_front settings old mid piece a (Ok x) held held_new stands read size is grew = tt
+piece_front settings old mid piece a (Err x) held held_new stands read size is grew = λ e.
+    front_next settings old.bytes a (settled (old.bytes ++ piece)) (left mid) held held_new e stands (piece_lines old mid piece read size is) (grew e)
 
 -- nothing was written
-pub piece_lost : (limit : ℕ) (old : Stream) (piece : List ℕ) (a : JobState) (held : Option (List ℕ))
-    → Stands limit old.bytes a → IsRead old → length old.bytes + length piece ≤ most_bytes
-    → (e : Ending) → GrewByFront held held (written_at More limit old.bytes) (written_at e limit (old.bytes ++ piece))
-piece_lost limit old piece a held stands read size e =
+pub piece_lost : (settings : Settings) (old : Stream) (piece : List ℕ) (a : JobState) (held : Option (List ℕ))
+    → Stands settings old.bytes a → IsRead old → length old.bytes + length piece ≤ most_bytes
+    → (e : Ending) → GrewByFront held held (written_at More settings old.bytes) (written_at e settings (old.bytes ++ piece))
+piece_lost settings old piece a held stands read size e =
     let mid : Stream = record old { bytes = old.bytes ++ piece } in
-    front_next limit old.bytes a (settled (old.bytes ++ piece)) (left mid) held held e stands (piece_lines old mid piece read size refl)
-    (nothing_written held (printed_all (lines_from_stage limit a.stage e (left mid))))
+    front_next settings old.bytes a (settled (old.bytes ++ piece)) (left mid) held held e stands (piece_lines old mid piece read size refl)
+    (nothing_written held (printed_all (lines_from_stage settings a.stage e (left mid))))
 
 -- ---- what all lines come to
 
@@ -289,10 +290,10 @@ refused_is (x ∷ output_line) = ap is_refused (begun_status x output_line (is_r
 
 -- ---- the end
 
-end_status : (limit : ℕ) (X all : List OutputLine) (b : JobState) (e : Ending) (s : Status) → b.status ≡ come_to None X → all ≡ X ++ lines_from_stage limit b.stage e []
-    → s ≡ status_at (come_to b.status (lines_from_stage limit b.stage e [])) → s ≡ status_of all
-end_status limit X all b e s comes is h =
-    let tail = lines_from_stage limit b.stage e [] in
+end_status : (settings : Settings) (X all : List OutputLine) (b : JobState) (e : Ending) (s : Status) → b.status ≡ come_to None X → all ≡ X ++ lines_from_stage settings b.stage e []
+    → s ≡ status_at (come_to b.status (lines_from_stage settings b.stage e [])) → s ≡ status_of all
+end_status settings X all b e s comes is h =
+    let tail = lines_from_stage settings b.stage e [] in
     h ∙ ap (λ (o : Option Status). status_at (come_to o tail)) comes ∙ ap status_at (sym (come_on None X tail) ∙ ap (come_to None) (sym is)) ∙ status_is all
 
 end_grew : (held held_now held_new : Option (List ℕ)) (before : List ℕ) (X tail all : List OutputLine) → Grew held held_now before (printed_all X) → all ≡ X ++ tail
@@ -317,27 +318,27 @@ end_front held held_now held_new before X tail all grew is end =
 
 -- a text with more bytes
 
-last_output_line_is : (limit : ℕ) (text : List ℕ) (b : JobState) → Stands limit text b → written_lines limit Over (settled text) ≡ written_lines limit More (settled text) ++ lines_from_stage limit b.stage Over []
-last_output_line_is limit text b stands = ap (written_lines limit Over) (sym (append-nil (settled text))) ∙ stands.rest Over []
+last_output_line_is : (settings : Settings) (text : List ℕ) (b : JobState) → Stands settings text b → written_lines settings Over (settled text) ≡ written_lines settings More (settled text) ++ lines_from_stage settings b.stage Over []
+last_output_line_is settings text b stands = ap (written_lines settings Over) (sym (append-nil (settled text))) ∙ stands.rest Over []
 
-pub last_status : {E : Type 0} (limit : ℕ) (text : List ℕ) (b : JobState) (r : Result Status E) → Stands limit text b
-    → IfOk r (λ s. (limit : ℕ) → s ≡ status_at (come_to b.status (lines_from_stage limit b.stage Over []))) → IfOk r (λ s. s ≡ status_of (written_lines limit Over (settled text)))
-last_status limit text b (Ok s) stands h = end_status limit (written_lines limit More (settled text)) (written_lines limit Over (settled text)) b Over s stands.comes (last_output_line_is limit text b stands) (h limit)
-last_status limit text b (Err e) stands h = tt
+pub last_status : {E : Type 0} (settings : Settings) (text : List ℕ) (b : JobState) (r : Result Status E) → Stands settings text b
+    → IfOk r (λ s. (settings : Settings) → s ≡ status_at (come_to b.status (lines_from_stage settings b.stage Over []))) → IfOk r (λ s. s ≡ status_of (written_lines settings Over (settled text)))
+last_status settings text b (Ok s) stands h = end_status settings (written_lines settings More (settled text)) (written_lines settings Over (settled text)) b Over s stands.comes (last_output_line_is settings text b stands) (h settings)
+last_status settings text b (Err e) stands h = tt
 
-pub last_grew : {E : Type 0} (limit : ℕ) (text : List ℕ) (b : JobState) (r : Result Status E) (held held_now held_new : Option (List ℕ)) (before : List ℕ) → Stands limit text b
-    → Grew held held_now before (written_at More limit text) → OnOk r ((limit : ℕ) → Appends held_now held_new (printed_all (lines_from_stage limit b.stage Over [])))
-    → OnOk r (Grew held held_new before (written_at Over limit text))
-last_grew limit text b (Ok s) held held_now held_new before stands grew end =
-    end_grew held held_now held_new before (written_lines limit More (settled text)) (lines_from_stage limit b.stage Over []) (written_lines limit Over (settled text)) grew (last_output_line_is limit text b stands) (end limit)
-last_grew limit text b (Err e) held held_now held_new before stands grew end = tt
+pub last_grew : {E : Type 0} (settings : Settings) (text : List ℕ) (b : JobState) (r : Result Status E) (held held_now held_new : Option (List ℕ)) (before : List ℕ) → Stands settings text b
+    → Grew held held_now before (written_at More settings text) → OnOk r ((settings : Settings) → Appends held_now held_new (printed_all (lines_from_stage settings b.stage Over [])))
+    → OnOk r (Grew held held_new before (written_at Over settings text))
+last_grew settings text b (Ok s) held held_now held_new before stands grew end =
+    end_grew held held_now held_new before (written_lines settings More (settled text)) (lines_from_stage settings b.stage Over []) (written_lines settings Over (settled text)) grew (last_output_line_is settings text b stands) (end settings)
+last_grew settings text b (Err e) held held_now held_new before stands grew end = tt
 
-pub last_front : {E : Type 0} (limit : ℕ) (text : List ℕ) (b : JobState) (r : Result Status E) (held held_now held_new : Option (List ℕ)) (before : List ℕ) → Stands limit text b
-    → Grew held held_now before (written_at More limit text) → OnErr r ((limit : ℕ) → GrowsByFront held_now held_new (printed_all (lines_from_stage limit b.stage Over [])))
-    → OnErr r (GrewByFront held held_new before (written_at Over limit text))
-last_front limit text b (Ok s) held held_now held_new before stands grew end = tt
-last_front limit text b (Err e) held held_now held_new before stands grew end =
-    end_front held held_now held_new before (written_lines limit More (settled text)) (lines_from_stage limit b.stage Over []) (written_lines limit Over (settled text)) grew (last_output_line_is limit text b stands) (end limit)
+pub last_front : {E : Type 0} (settings : Settings) (text : List ℕ) (b : JobState) (r : Result Status E) (held held_now held_new : Option (List ℕ)) (before : List ℕ) → Stands settings text b
+    → Grew held held_now before (written_at More settings text) → OnErr r ((settings : Settings) → GrowsByFront held_now held_new (printed_all (lines_from_stage settings b.stage Over [])))
+    → OnErr r (GrewByFront held held_new before (written_at Over settings text))
+last_front settings text b (Ok s) held held_now held_new before stands grew end = tt
+last_front settings text b (Err e) held held_now held_new before stands grew end =
+    end_front held held_now held_new before (written_lines settings More (settled text)) (lines_from_stage settings b.stage Over []) (written_lines settings Over (settled text)) grew (last_output_line_is settings text b stands) (end settings)
 
 -- the end of a text
 
@@ -351,57 +352,57 @@ pub text_within : (old mid : Stream) → IsRead old → mid ≡ record old { end
 text_within old mid read is =
     subst IsWithin (ap (λ (l : List ℕ). record old { bytes = l; ended = true }) (append-nil old.bytes) ∙ sym is) (more_within old true [] read)
 
-text_output_line : (limit : ℕ) (old mid new : Stream) (a b : JobState) (held held_now : Option (List ℕ)) → Stands limit old.bytes a → IsRead old → length old.bytes ≤ most_bytes
-    → mid ≡ record old { ended = true } → (fed : Fed limit a b (left mid) (left new) held held_now) → left new ≡ []
-    → output_lines old.bytes limit ≡ (written_lines limit More (settled old.bytes) ++ fed.outputs) ++ lines_from_stage limit b.stage Ended []
-text_output_line limit old mid new a b held held_now stands read size is fed none =
-    output_at limit old.bytes size
-    ∙ output_line_now limit old.bytes a b (lines_of true old.bytes) (left mid) (left new) held held_now stands fed none (text_lines old mid read size is) Ended
+text_output_line : (settings : Settings) (old mid new : Stream) (a b : JobState) (held held_now : Option (List ℕ)) → Stands settings old.bytes a → IsRead old → length old.bytes ≤ most_bytes
+    → mid ≡ record old { ended = true } → (fed : Fed settings a b (left mid) (left new) held held_now) → left new ≡ []
+    → output_lines old.bytes settings ≡ (written_lines settings More (settled old.bytes) ++ fed.outputs) ++ lines_from_stage settings b.stage Ended []
+text_output_line settings old mid new a b held held_now stands read size is fed none =
+    output_at settings old.bytes size
+    ∙ output_line_now settings old.bytes a b (lines_of true old.bytes) (left mid) (left new) held held_now stands fed none (text_lines old mid read size is) Ended
 
-text_grew : (limit : ℕ) (text : List ℕ) (a b : JobState) (new lines_new : List Line) (held held_now : Option (List ℕ)) → (fed : Fed limit a b new lines_new held held_now)
-    → Grew held held_now (written_at More limit text) (printed_all (written_lines limit More (settled text) ++ fed.outputs))
-text_grew limit text a b new lines_new held held_now fed =
-    record { wrote = printed_all fed.outputs; grew = fed.grew; whole = sym (flat_map-append printed (written_lines limit More (settled text)) fed.outputs) }
+text_grew : (settings : Settings) (text : List ℕ) (a b : JobState) (new lines_new : List Line) (held held_now : Option (List ℕ)) → (fed : Fed settings a b new lines_new held held_now)
+    → Grew held held_now (written_at More settings text) (printed_all (written_lines settings More (settled text) ++ fed.outputs))
+text_grew settings text a b new lines_new held held_now fed =
+    record { wrote = printed_all fed.outputs; grew = fed.grew; whole = sym (flat_map-append printed (written_lines settings More (settled text)) fed.outputs) }
 
-pub text_status : {E : Type 0} (limit : ℕ) (old mid new : Stream) (a b : JobState) (r : Result Status E) (held held_now : Option (List ℕ)) → Stands limit old.bytes a → IsRead old
-    → length old.bytes ≤ most_bytes → mid ≡ record old { ended = true } → Fed limit a b (left mid) (left new) held held_now → left new ≡ []
-    → IfOk r (λ s. (limit : ℕ) → s ≡ status_at (come_to b.status (lines_from_stage limit b.stage Ended []))) → IfOk r (λ s. s ≡ end_of old.bytes limit)
-text_status limit old mid new a b (Ok s) held held_now stands read size is fed none h =
-    let T = written_lines limit More (settled old.bytes) in
-    end_status limit (T ++ fed.outputs) (output_lines old.bytes limit) b Ended s
+pub text_status : {E : Type 0} (settings : Settings) (old mid new : Stream) (a b : JobState) (r : Result Status E) (held held_now : Option (List ℕ)) → Stands settings old.bytes a → IsRead old
+    → length old.bytes ≤ most_bytes → mid ≡ record old { ended = true } → Fed settings a b (left mid) (left new) held held_now → left new ≡ []
+    → IfOk r (λ s. (settings : Settings) → s ≡ status_at (come_to b.status (lines_from_stage settings b.stage Ended []))) → IfOk r (λ s. s ≡ end_of old.bytes settings)
+text_status settings old mid new a b (Ok s) held held_now stands read size is fed none h =
+    let T = written_lines settings More (settled old.bytes) in
+    end_status settings (T ++ fed.outputs) (output_lines old.bytes settings) b Ended s
     (fed.comes ∙ ap (λ (o : Option Status). come_to o fed.outputs) stands.comes ∙ sym (come_on None T fed.outputs))
-    (text_output_line limit old mid new a b held held_now stands read size is fed none) (h limit)
-text_status limit old mid new a b (Err e) held held_now stands read size is fed none h = tt
+    (text_output_line settings old mid new a b held held_now stands read size is fed none) (h settings)
+text_status settings old mid new a b (Err e) held held_now stands read size is fed none h = tt
 
-pub text_wrote : {E : Type 0} (limit : ℕ) (old mid new : Stream) (a b : JobState) (r : Result Status E) (held held_now held_new : Option (List ℕ)) → Stands limit old.bytes a → IsRead old
-    → length old.bytes ≤ most_bytes → mid ≡ record old { ended = true } → Fed limit a b (left mid) (left new) held held_now → left new ≡ []
-    → OnOk r ((limit : ℕ) → Appends held_now held_new (printed_all (lines_from_stage limit b.stage Ended []))) → OnOk r (Grew held held_new (written_at More limit old.bytes) (output old.bytes limit))
-text_wrote limit old mid new a b (Ok s) held held_now held_new stands read size is fed none end =
-    end_grew held held_now held_new (written_at More limit old.bytes) (written_lines limit More (settled old.bytes) ++ fed.outputs) (lines_from_stage limit b.stage Ended []) (output_lines old.bytes limit)
-    (text_grew limit old.bytes a b (left mid) (left new) held held_now fed) (text_output_line limit old mid new a b held held_now stands read size is fed none) (end limit)
-text_wrote limit old mid new a b (Err e) held held_now held_new stands read size is fed none end = tt
+pub text_wrote : {E : Type 0} (settings : Settings) (old mid new : Stream) (a b : JobState) (r : Result Status E) (held held_now held_new : Option (List ℕ)) → Stands settings old.bytes a → IsRead old
+    → length old.bytes ≤ most_bytes → mid ≡ record old { ended = true } → Fed settings a b (left mid) (left new) held held_now → left new ≡ []
+    → OnOk r ((settings : Settings) → Appends held_now held_new (printed_all (lines_from_stage settings b.stage Ended []))) → OnOk r (Grew held held_new (written_at More settings old.bytes) (output old.bytes settings))
+text_wrote settings old mid new a b (Ok s) held held_now held_new stands read size is fed none end =
+    end_grew held held_now held_new (written_at More settings old.bytes) (written_lines settings More (settled old.bytes) ++ fed.outputs) (lines_from_stage settings b.stage Ended []) (output_lines old.bytes settings)
+    (text_grew settings old.bytes a b (left mid) (left new) held held_now fed) (text_output_line settings old mid new a b held held_now stands read size is fed none) (end settings)
+text_wrote settings old mid new a b (Err e) held held_now held_new stands read size is fed none end = tt
 
-pub text_front : {E : Type 0} (limit : ℕ) (old mid new : Stream) (a b : JobState) (r : Result Status E) (held held_now held_new : Option (List ℕ)) → Stands limit old.bytes a → IsRead old
-    → length old.bytes ≤ most_bytes → mid ≡ record old { ended = true } → Fed limit a b (left mid) (left new) held held_now → left new ≡ []
-    → OnErr r ((limit : ℕ) → GrowsByFront held_now held_new (printed_all (lines_from_stage limit b.stage Ended []))) → OnErr r (GrewByFront held held_new (written_at More limit old.bytes) (output old.bytes limit))
-text_front limit old mid new a b (Ok s) held held_now held_new stands read size is fed none end = tt
-text_front limit old mid new a b (Err e) held held_now held_new stands read size is fed none end =
-    end_front held held_now held_new (written_at More limit old.bytes) (written_lines limit More (settled old.bytes) ++ fed.outputs) (lines_from_stage limit b.stage Ended []) (output_lines old.bytes limit)
-    (text_grew limit old.bytes a b (left mid) (left new) held held_now fed) (text_output_line limit old mid new a b held held_now stands read size is fed none) (end limit)
+pub text_front : {E : Type 0} (settings : Settings) (old mid new : Stream) (a b : JobState) (r : Result Status E) (held held_now held_new : Option (List ℕ)) → Stands settings old.bytes a → IsRead old
+    → length old.bytes ≤ most_bytes → mid ≡ record old { ended = true } → Fed settings a b (left mid) (left new) held held_now → left new ≡ []
+    → OnErr r ((settings : Settings) → GrowsByFront held_now held_new (printed_all (lines_from_stage settings b.stage Ended []))) → OnErr r (GrewByFront held held_new (written_at More settings old.bytes) (output old.bytes settings))
+text_front settings old mid new a b (Ok s) held held_now held_new stands read size is fed none end = tt
+text_front settings old mid new a b (Err e) held held_now held_new stands read size is fed none end =
+    end_front held held_now held_new (written_at More settings old.bytes) (written_lines settings More (settled old.bytes) ++ fed.outputs) (lines_from_stage settings b.stage Ended []) (output_lines old.bytes settings)
+    (text_grew settings old.bytes a b (left mid) (left new) held held_now fed) (text_output_line settings old mid new a b held held_now stands read size is fed none) (end settings)
 
 -- a front of the lines after the piece before was written
-pub text_cut : (limit : ℕ) (old mid : Stream) (a : JobState) (held held_new : Option (List ℕ)) → Stands limit old.bytes a → IsRead old → length old.bytes ≤ most_bytes
-    → mid ≡ record old { ended = true } → ((e : Ending) → GrowsByFront held held_new (printed_all (lines_from_stage limit a.stage e (left mid))))
-    → GrewByFront held held_new (written_at More limit old.bytes) (output old.bytes limit)
-text_cut limit old mid a held held_new stands read size is grew =
-    subst (λ (l : List OutputLine). GrewByFront held held_new (written_at More limit old.bytes) (printed_all l)) (sym (output_at limit old.bytes size))
-    (front_next limit old.bytes a (lines_of true old.bytes) (left mid) held held_new Ended stands (text_lines old mid read size is) (grew Ended))
+pub text_cut : (settings : Settings) (old mid : Stream) (a : JobState) (held held_new : Option (List ℕ)) → Stands settings old.bytes a → IsRead old → length old.bytes ≤ most_bytes
+    → mid ≡ record old { ended = true } → ((e : Ending) → GrowsByFront held held_new (printed_all (lines_from_stage settings a.stage e (left mid))))
+    → GrewByFront held held_new (written_at More settings old.bytes) (output old.bytes settings)
+text_cut settings old mid a held held_new stands read size is grew =
+    subst (λ (l : List OutputLine). GrewByFront held held_new (written_at More settings old.bytes) (printed_all l)) (sym (output_at settings old.bytes size))
+    (front_next settings old.bytes a (lines_of true old.bytes) (left mid) held held_new Ended stands (text_lines old mid read size is) (grew Ended))
 
-pub text_spent : {X E : Type 0} (limit : ℕ) (old mid new : Stream) (a c : JobState) (r : Result X E) (steps steps_new : ℕ)
-    → Stands limit old.bytes a → IsRead old → length old.bytes ≤ most_bytes → mid ≡ record old { ended = true }
-    → OnOk r (left new ≡ []) → OnOk r (Spends (work_from_stage limit a.stage) (work_from_stage limit c.stage) (left mid) (left new) steps steps_new)
-    → OnErr r (SpendsAtMost (work_from_stage limit a.stage) (left mid) steps steps_new)
-    → SpendsOnText steps steps_new (work_at limit old.bytes) (bound_of old.bytes limit)
-text_spent limit old mid new a c r steps steps_new stands read size is none spent most =
-    subst (λ (l : List Line). SpendsOnText steps steps_new (work_at limit old.bytes) (work limit l)) (sym (lines_is old.bytes size))
-    (spent_more limit old.bytes a c (lines_of true old.bytes) (left mid) (left new) r steps steps_new stands (text_lines old mid read size is) none spent most)
+pub text_spent : {X E : Type 0} (settings : Settings) (old mid new : Stream) (a c : JobState) (r : Result X E) (steps steps_new : ℕ)
+    → Stands settings old.bytes a → IsRead old → length old.bytes ≤ most_bytes → mid ≡ record old { ended = true }
+    → OnOk r (left new ≡ []) → OnOk r (Spends (work_from_stage settings a.stage) (work_from_stage settings c.stage) (left mid) (left new) steps steps_new)
+    → OnErr r (SpendsAtMost (work_from_stage settings a.stage) (left mid) steps steps_new)
+    → SpendsOnText steps steps_new (work_at settings old.bytes) (bound_of old.bytes settings)
+text_spent settings old mid new a c r steps steps_new stands read size is none spent most =
+    subst (λ (l : List Line). SpendsOnText steps steps_new (work_at settings old.bytes) (work settings l)) (sym (lines_is old.bytes size))
+    (spent_more settings old.bytes a c (lines_of true old.bytes) (left mid) (left new) r steps steps_new stands (text_lines old mid read size is) none spent most)

@@ -1,5 +1,5 @@
 -- A session that is started is that of the header.
-use Rattle.std.proofs.Common.{◌≡◌, ◌≤◌, ℕ, ◌+◌, Bool, true, false, not, List, [], ◌∷◌, refl, sym, ap, subst, ◌∙◌, arith}
+use Rattle.std.proofs.Common.{◌≡◌, ◌≤◌, ℕ, ◌+◌, Bool, true, false, not, List, [], ◌∷◌, ◌++◌, refl, sym, ap, subst, ◌∙◌, arith}
 use Rattle.std.specs.Prelude.{IfOk, Ok, Err, Option, Some, None, if◌then◌else◌}
 use Rattle.std.specs.declared.result.Result.{Result}
 use Rattle.mm_edit.specs.Edits as kinds
@@ -11,16 +11,17 @@ use Rattle.mm_edit.specs.declared.query.Query.TheVariants as kind
 use Rattle.mm_field.specs.declared.Field.{Field}
 use Rattle.mm_formula.specs.Scope.{IsScoped, outermost, slotted}
 use Rattle.mm_formula.specs.Syntax.{Syntax}
-use Rattle.mm_formula.specs.declared.scope.Scoped.{Scoped}
 use Rattle.mm_formula.proofs.SlotLemmas.{scoped_sorted}
-use Rattle.mm_header.specs.Header.{Parts}
-use Rattle.mm_header.specs.Queries.{query_for}
+use Rattle.mm_header.specs.Header.{Parts, matched}
+use Rattle.mm_header.specs.Queries.{Question, minor_line, minor_query, query_for, query_line}
+use Rattle.mm_header.specs.Queries.Question.{Spelled, Minor}
 use Rattle.mm_header.specs.QueryValues.{query_value}
 use Rattle.mm_header.specs.State.HeaderStates.{IsHeader, header_value}
 use Rattle.mm_header.specs.declared.state.HeaderData.{HeaderData}
-use Rattle.mm_job.specs.Header.{Session, after_parts, is_over_limit, query_part, started}
+use Rattle.mm_job.specs.Header.{Session, after_parts, is_over_limit, query_part, session_part, started}
 use Rattle.mm_job.specs.Items.{items}
-use Rattle.mm_job.specs.State.Replies.{Begins, Begun, SpendsStart}
+use Rattle.mm_job.specs.Settings.{Settings}
+use Rattle.mm_job.specs.State.Replies.{Begins, Begun, SpendsStart, Starts}
 use Rattle.mm_job.specs.Output.{Ending, answered, lines_after_header, lines_of_items}
 use Rattle.mm_job.specs.State.Sessions.{IsEditor, kept_of, kind_by, session_of, session_with}
 use Rattle.mm_job.specs.Work.{items_work, types_in, work_after}
@@ -29,9 +30,10 @@ use Rattle.mm_job.specs.declared.output_line.OutputLine.{OutputLine}
 use Rattle.mm_job.specs.declared.output_line.OutputLine.TheVariants.{Refuses}
 use Rattle.mm_job.proofs.EditLemmas.{IsFit, is_over, members_are, not_over}
 use Rattle.mm_job.proofs.WorkLemmas.{items_same}
-use Rattle.mm_job_text.specs.Becoming.{Goes}
-use Rattle.mm_job_text.specs.Checks.{◌>>=◌, require}
-use Rattle.mm_job_text.specs.Readers.{Reading, Read, Refused, and_then, now}
+use Rattle.mm_job_text.specs.Arguments.{too_long}
+use Rattle.mm_job_text.specs.Becoming.{Becomes, Goes, Reads}
+use Rattle.mm_job_text.specs.Checks.{◌>>=◌, ◌>>◌, require}
+use Rattle.mm_job_text.specs.Readers.{Reader, Reading, Read, Refused, and_then, now, refused_or, whole}
 use Rattle.mm_job_text.specs.declared.refusal.Refusal.{Refusal}
 use Rattle.mm_job_text.specs.declared.refusal.Refusal.TheVariants as refusal
 use Rattle.mm_job_text.specs.declared.refusal.Stop.{Stop}
@@ -104,93 +106,182 @@ start_over s rs h = ap (λ (over : Bool). now (require (not over) refusal.States
 start_within : (s : Session) (rs : List Line) → is_over_limit s s.tree ≡ false → now (started s) rs ≡ Read s rs
 start_within s rs h = ap (λ (over : Bool). now (require (not over) refusal.States >>= λ u. Ok s) rs) h
 
-pub start_goes : (limit : ℕ) (p : Parts) (line : Line) (s : Session) (r : Result Editor Stop) → ((rs : List Line) → query_part limit p (line ∷ rs) ≡ Read s rs) → Begins s r
-    → (rs : List Line) → Goes r (after_parts limit p (line ∷ rs)) (λ e. Read (session_of e) rs)
-start_goes limit p line s (Ok e) read begun rs =
+start_goes : (reader : Reader Session) (lines : List Line) (s : Session) (r : Result Editor Stop) → ((rs : List Line) → reader (lines ++ rs) ≡ Read s rs) → Begins s r
+    → (rs : List Line) → Goes r (and_then (reader (lines ++ rs)) (λ s. now (started s))) (λ e. Read (session_of e) rs)
+start_goes reader lines s (Ok e) read begun rs =
     ap (λ (x : Reading Session). and_then x (λ s. now (started s))) (read rs) ∙ start_within s rs begun.within ∙ ap (λ (t : Session). Read t rs) (sym begun.session)
-start_goes limit p line s (Err (stop.Refused why)) read begun rs =
+start_goes reader lines s (Err (stop.Refused why)) read begun rs =
     ap (λ (x : Reading Session). and_then x (λ s. now (started s))) (read rs) ∙ start_over s rs begun.1 ∙ ap Refused (sym begun.0)
-start_goes limit p line s (Err stop.NoMemory) read begun rs = tt
+start_goes reader lines s (Err stop.NoMemory) read begun rs = tt
 
-pub start_editor : (s : Session) (r : Result Editor Stop) → Begins s r → IfOk r IsEditor
+start_editor : (s : Session) (r : Result Editor Stop) → Begins s r → IfOk r IsEditor
 start_editor s (Ok e) begun = begun.editor
 start_editor s (Err why) begun = tt
 
 -- ---- the steps of a start
 
-work_read : (limit : ℕ) (p : Parts) (line : Line) (s : Session) (rs : List Line) (b : Bool) → query_part limit p (line ∷ rs) ≡ Read s rs → is_over_limit s s.tree ≡ b
-    → work_after (query_part limit p (line ∷ rs)) ≡ nodes s.tree + (if b then 0 else items_work (types_in s s.tree) s (items rs))
-work_read limit p line s rs b read over =
-    ap work_after read ∙ ap (λ (c : Bool). nodes s.tree + (if c then 0 else items_work (types_in s s.tree) s (items rs))) over
+work_read : (read : Reading Session) (s : Session) (rs : List Line) (b : Bool) → read ≡ Read s rs → is_over_limit s s.tree ≡ b
+    → work_after read ≡ nodes s.tree + (if b then 0 else items_work (types_in s s.tree) s (items rs))
+work_read read s rs b is over =
+    ap work_after is ∙ ap (λ (c : Bool). nodes s.tree + (if c then 0 else items_work (types_in s s.tree) s (items rs))) over
 
-pub start_spends : (limit : ℕ) (p : Parts) (line : Line) (s : Session) (r : Result Editor Stop) (steps steps_new : ℕ)
-    → ((rs : List Line) → query_part limit p (line ∷ rs) ≡ Read s rs) → Begins s r → steps_new ≤ steps + nodes s.tree
-    → SpendsStart (λ rs. work_after (query_part limit p rs)) line r steps steps_new
-start_spends limit p line s (Ok e) steps steps_new read begun few = record {
+start_spends : (reader : Reader Session) (lines : List Line) (s : Session) (r : Result Editor Stop) (steps steps_new : ℕ)
+    → ((rs : List Line) → reader (lines ++ rs) ≡ Read s rs) → Begins s r → steps_new ≤ steps + nodes s.tree
+    → SpendsStart (λ rs. work_after (reader rs)) lines r steps steps_new
+start_spends reader lines s (Ok e) steps steps_new read begun few = record {
   work = nodes s.tree;
   within = few;
-  same = λ rs. work_read limit p line s rs false (read rs) begun.within
+  same = λ rs. work_read (reader (lines ++ rs)) s rs false (read rs) begun.within
       ∙ ap (λ (n : ℕ). nodes s.tree + n)
       (items_same (items rs) (types_in s s.tree) (kept_of e) s (λ q. sym (begun.kept q))
       ∙ ap (λ (t : Session). items_work (kept_of e) t (items rs)) (sym begun.session));
 }
-start_spends limit p line s (Err (stop.Refused why)) steps steps_new read begun few = record {
+start_spends reader lines s (Err (stop.Refused why)) steps steps_new read begun few = record {
   work = nodes s.tree;
   within = few;
-  same = λ rs. work_read limit p line s rs true (read rs) begun.1;
+  same = λ rs. work_read (reader (lines ++ rs)) s rs true (read rs) begun.1;
 }
-start_spends limit p line s (Err stop.NoMemory) steps steps_new read begun few = λ rs.
-    let all : work_after (query_part limit p (line ∷ rs)) ≡ nodes s.tree + (if is_over_limit s s.tree then 0 else items_work (types_in s s.tree) s (items rs)) =
-    work_read limit p line s rs (is_over_limit s s.tree) (read rs) refl in
+start_spends reader lines s (Err stop.NoMemory) steps steps_new read begun few = λ rs.
+    let all : work_after (reader (lines ++ rs)) ≡ nodes s.tree + (if is_over_limit s s.tree then 0 else items_work (types_in s s.tree) s (items rs)) =
+    work_read (reader (lines ++ rs)) s rs (is_over_limit s s.tree) (read rs) refl in
     omega (arith, all, few)
 
--- ---- what is read of the query line
+-- ---- what some lines begin
 
--- the query that was read is that of a machine
-pub query_read : (limit : ℕ) (h : HeaderData) (T : Tree) (line : Line) (q : Scoped) (r : Result Scoped Stop) (Q : Query) → r ≡ Ok q → Q ≡ query_value q
-    → ((limit : ℕ) (rs : List Line) → Goes r (query_part limit (header_value h, T) (line ∷ rs)) (λ q. Read (session_with limit h (query_value q) T) rs))
-    → (rs : List Line) → query_part limit (header_value h, T) (line ∷ rs) ≡ Read (session_with limit h Q T) rs
-query_read limit h T line q r Q ok is read rs =
-    let at : query_part limit (header_value h, T) (line ∷ rs) ≡ Read (session_with limit h (query_value q) T) rs =
-    subst (λ (x : Result Scoped Stop). Goes x (query_part limit (header_value h, T) (line ∷ rs)) (λ q. Read (session_with limit h (query_value q) T) rs)) ok (read limit rs) in
-    at ∙ ap (λ (x : Query). Read (session_with limit h x T) rs) (sym is)
-
-stops_as : {X : Type 0} (e : Stop) (all : Reading Session) (f : X → Reading Session) (r : Result X Stop) → r ≡ Err e → Goes r all f → Goes {X = X} (Err e) all f
-stops_as {X} e all f r is h = subst (λ (x : Result X Stop). Goes x all f) is h
-
--- a refused query line refuses the header
-pub stopped_goes : {X : Type 0} (limit : ℕ) (p : Parts) (line : Line) (e : Stop) (r : Result X Stop) (f : X → List Line → Reading Session) → r ≡ Err e
-    → ((rs : List Line) → Goes r (query_part limit p (line ∷ rs)) (λ x. f x rs)) → (rs : List Line) → Goes {X = Editor} (Err e) (after_parts limit p (line ∷ rs)) (λ e. Read (session_of e) rs)
-stopped_goes {X} limit p line (stop.Refused why) r f is goes rs =
-    ap (λ (x : Reading Session). and_then x (λ s. now (started s))) (stops_as (stop.Refused why) (query_part limit p (line ∷ rs)) (λ x. f x rs) r is (goes rs))
-stopped_goes limit p line stop.NoMemory r f is goes rs = tt
-
--- no step was taken
-pub start_stopped : {X : Type 0} (limit : ℕ) (p : Parts) (line : Line) (e : Stop) (steps : ℕ) (r : Result X Stop) (f : X → List Line → Reading Session) → r ≡ Err e
-    → ((rs : List Line) → Goes r (query_part limit p (line ∷ rs)) (λ x. f x rs)) → SpendsStart (λ rs. work_after (query_part limit p rs)) line (Err e) steps steps
-start_stopped limit p line (stop.Refused why) steps r f is goes = record {
-  work = 0;
-  within = omega arith;
-  same = λ rs. ap work_after (stops_as (stop.Refused why) (query_part limit p (line ∷ rs)) (λ x. f x rs) r is (goes rs));
+-- they are read as a session
+session_starts : (reader : Reader Session) (lines : List Line) (s : Session) (r : Result Editor Stop) (steps steps_new : ℕ)
+    → ((rs : List Line) → reader (lines ++ rs) ≡ Read s rs) → Begins s r → steps_new ≤ steps + nodes s.tree → Starts reader lines r steps steps_new
+session_starts reader lines s r steps steps_new read begun few = record {
+  editor = start_editor s r begun;
+  goes = start_goes reader lines s r read begun;
+  spends = start_spends reader lines s r steps steps_new read begun few;
 }
-start_stopped limit p line stop.NoMemory steps r f is goes = λ rs. omega arith
+
+-- they are refused
+refused_starts : (reader : Reader Session) (lines : List Line) (why : Refusal) (steps : ℕ) → ((rs : List Line) → reader (lines ++ rs) ≡ Refused why)
+    → Starts reader lines (Err (stop.Refused why)) steps steps
+refused_starts reader lines why steps is = record {
+  editor = tt;
+  goes = λ rs. ap (λ (x : Reading Session). and_then x (λ s. now (started s))) (is rs);
+  spends = record { work = 0; within = omega arith; same = λ rs. ap work_after (is rs) };
+}
+
+-- memory ran out
+pub nothing_starts : (reader : Reader Session) (lines : List Line) (steps : ℕ) → Starts reader lines (Err stop.NoMemory) steps steps
+nothing_starts reader lines steps = record { editor = tt; goes = λ rs. tt; spends = λ rs. omega arith }
+
+spends_later : (first after : Reader Session) (line : Line) (r : Result Editor Stop) (steps steps_new : ℕ) → ((rs : List Line) → first (line ∷ rs) ≡ after rs)
+    → SpendsStart (λ rs. work_after (after rs)) [] r steps steps_new → SpendsStart (λ rs. work_after (first rs)) (line ∷ []) r steps steps_new
+spends_later first after line (Ok e) steps steps_new is h = record { work = h.work; within = h.within; same = λ rs. ap work_after (is rs) ∙ h.same rs }
+spends_later first after line (Err (stop.Refused why)) steps steps_new is h =
+    record { work = h.work; within = h.within; same = λ rs. ap work_after (is rs) ∙ h.same rs }
+spends_later first after line (Err stop.NoMemory) steps steps_new is h = λ rs.
+    subst (λ (x : Reading Session). steps_new ≤ steps + work_after x) (sym (is rs)) (h rs)
+
+-- a line is read, and then what begins without a line more
+starts_later : (first after : Reader Session) (line : Line) (r : Result Editor Stop) (steps steps_new : ℕ) → ((rs : List Line) → first (line ∷ rs) ≡ after rs)
+    → Starts after [] r steps steps_new → Starts first (line ∷ []) r steps steps_new
+starts_later first after line r steps steps_new is h = record {
+  editor = h.editor;
+  goes = λ rs. subst (λ (x : Reading Session). Goes r (and_then x (λ s. now (started s))) (λ e. Read (session_of e) rs)) (sym (is rs)) (h.goes rs);
+  spends = spends_later first after line r steps steps_new is h.spends;
+}
+
+-- ---- rows
+
+-- the rows and the tree of a header agree
+pub matched_starts : (limit : ℕ) (h : HeaderData) (T : Tree) (Q : Query) (r : Result Editor Stop) (steps steps_new : ℕ) → matched (header_value h, T) ≡ Ok tt
+    → Begins (session_with limit h Q T) r → steps_new ≤ steps + nodes T → Starts (session_part limit (header_value h, T) Q) [] r steps steps_new
+unfolding session_part
+matched_starts limit h T Q r steps steps_new agree begun few =
+    session_starts (session_part limit (header_value h, T) Q) [] (session_with limit h Q T) r steps steps_new
+    (λ rs. ap (λ (x : Result (Unit {0}) Refusal). and_then (now x rs) (λ u. now (Ok (session_with limit h Q T)))) agree) begun few
+
+-- they differ
+pub unmatched_starts : (limit : ℕ) (p : Parts) (Q : Query) (e : Stop) (steps : ℕ) → Becomes {X = Unit {0}} (Err e) tt (matched p)
+    → Starts (session_part limit p Q) [] (Err e) steps steps
+unfolding session_part
+unmatched_starts limit p Q (stop.Refused why) steps is =
+    refused_starts (session_part limit p Q) [] why steps
+    (λ rs. ap (λ (x : Result (Unit {0}) Refusal).
+    and_then (now x rs) (λ u. now (Ok (record { f = p.0.f; ops = p.0.ops; query = Q; limit = limit; tree = p.1 })))) is)
+unmatched_starts limit p Q stop.NoMemory steps is = nothing_starts (session_part limit p Q) [] steps
+
+-- ---- the query line
+
+-- it gives a query
+pub query_starts : (settings : Settings) (limit : ℕ) (p : Parts) (line : Line) (Q : Query) (r : Result Editor Stop) (steps steps_new : ℕ)
+    → whole (query_line settings.question) line ≡ Ok Q → limit ≡ settings.limit → Starts (session_part limit p Q) [] r steps steps_new
+    → Starts (query_part settings p) (line ∷ []) r steps steps_new
+unfolding query_part
+query_starts settings limit p line Q r steps steps_new is same h =
+    starts_later (query_part settings p) (session_part settings.limit p Q) line r steps steps_new
+    (λ rs. ap (λ (x : Result Query Refusal). and_then (now x rs) (session_part settings.limit p)) is)
+    (subst (λ (n : ℕ). Starts (session_part n p Q) [] r steps steps_new) same h)
+
+-- it is refused
+pub refused_stops : (settings : Settings) (p : Parts) (line : Line) (why : Refusal) (steps : ℕ) → whole (query_line settings.question) line ≡ Err why
+    → Starts (query_part settings p) (line ∷ []) (Err (stop.Refused why)) steps steps
+unfolding query_part
+refused_stops settings p line why steps is =
+    refused_starts (query_part settings p) (line ∷ []) why steps
+    (λ rs. ap (λ (x : Result Query Refusal). and_then (now x rs) (session_part settings.limit p)) is)
+
+abbrev error_or : {A : Type 0} → Refusal → Result A Refusal → Refusal
+error_or e (Ok x) = e
+error_or e (Err why) = why
+
+minor_is : (long : Option Refusal) (word : Result (Unit {0}) Refusal) (Q : Query) → refused_or long word ≡ Ok tt → refused_or long (word >> Ok Q) ≡ Ok Q
+minor_is None (Ok u) Q h = refl
+minor_is None (Err e) Q h = absurd (let x : Err e ≡ Ok tt = h in cc)
+minor_is (Some e) word Q h = absurd (let x : Err e ≡ Ok tt = h in cc)
+
+-- the word stands for the query that is given
+pub given_asked : (settings : Settings) (Q : Query) (line : Line) → settings.question ≡ Minor Q → whole minor_line line ≡ Ok tt
+    → whole (query_line settings.question) line ≡ Ok Q
+unfolding minor_query
+given_asked settings Q line is h =
+    ap (λ (question : Question). whole (query_line question) line) is ∙ minor_is (too_long line.text line.number) (minor_line line) Q h
+
+not_minor : (long : Option Refusal) (word : Result (Unit {0}) Refusal) (why : Refusal) (Q : Query) → refused_or long word ≡ Err why
+    → refused_or long (word >> Ok Q) ≡ Err why
+not_minor None (Ok u) why Q h = absurd (let x : Ok u ≡ Err why = h in cc)
+not_minor None (Err e) why Q h = ap (λ (x : Refusal). Err x) (ap (error_or why) h)
+not_minor (Some e) word why Q h = ap (λ (x : Refusal). Err x) (ap (error_or why) h)
+
+-- another line is refused
+pub given_refused : (settings : Settings) (Q : Query) (line : Line) (why : Refusal) → settings.question ≡ Minor Q → whole minor_line line ≡ Err why
+    → whole (query_line settings.question) line ≡ Err why
+unfolding minor_query
+given_refused settings Q line why is h =
+    ap (λ (question : Question). whole (query_line question) line) is ∙ not_minor (too_long line.text line.number) (minor_line line) why Q h
+
+-- a line of a text whose query line spells its query
+pub spelled_read : (settings : Settings) (line : Line) (read : Result Query Refusal) → settings.question ≡ Spelled → whole (query_line Spelled) line ≡ read
+    → whole (query_line settings.question) line ≡ read
+spelled_read settings line read is h = ap (λ (question : Question). whole (query_line question) line) is ∙ h
+
+pub spelled_stops : (settings : Settings) (p : Parts) (line : Line) (e : Stop) (steps : ℕ) → settings.question ≡ Spelled
+    → Reads query_value (Err e) (whole (query_line Spelled) line) → Starts (query_part settings p) (line ∷ []) (Err e) steps steps
+spelled_stops settings p line (stop.Refused why) steps is h = refused_stops settings p line why steps (spelled_read settings line (Err why) is h)
+spelled_stops settings p line stop.NoMemory steps is h = nothing_starts (query_part settings p) (line ∷ []) steps
 
 -- ---- what the query line writes
 
 -- the answer, and then the lines of the items
-pub query_taken : (limit : ℕ) (p : Parts) (line : Line) (r : Result Editor Stop) (new : Editor) (output : OutputLine) → r ≡ Ok new → output ≡ answered (session_of new)
-    → ((rs : List Line) → Goes r (after_parts limit p (line ∷ rs)) (λ e. Read (session_of e) rs))
-    → (e : Ending) (rs : List Line) → lines_after_header e (after_parts limit p (line ∷ rs)) ≡ output ∷ lines_of_items e (session_of new) (items rs)
-query_taken limit p line r new output ok is goes e rs =
-    let at : after_parts limit p (line ∷ rs) ≡ Read (session_of new) rs =
-    subst (λ (x : Result Editor Stop). Goes x (after_parts limit p (line ∷ rs)) (λ e. Read (session_of e) rs)) ok (goes rs) in
+pub query_taken : (settings : Settings) (p : Parts) (line : Line) (r : Result Editor Stop) (new : Editor) (output : OutputLine) → r ≡ Ok new → output ≡ answered (session_of new)
+    → ((rs : List Line) → Goes r (after_parts settings p (line ∷ rs)) (λ e. Read (session_of e) rs))
+    → (e : Ending) (rs : List Line) → lines_after_header e (after_parts settings p (line ∷ rs)) ≡ output ∷ lines_of_items e (session_of new) (items rs)
+query_taken settings p line r new output ok is goes e rs =
+    let at : after_parts settings p (line ∷ rs) ≡ Read (session_of new) rs =
+    subst (λ (x : Result Editor Stop). Goes x (after_parts settings p (line ∷ rs)) (λ e. Read (session_of e) rs)) ok (goes rs) in
     ap (lines_after_header e) at ∙ ap (λ (o : OutputLine). o ∷ lines_of_items e (session_of new) (items rs)) (sym is)
 
 -- its refusal, and nothing more
-pub query_refused : (limit : ℕ) (p : Parts) (line : Line) (r : Result Editor Stop) (why : Refusal) → r ≡ Err (stop.Refused why)
-    → ((rs : List Line) → Goes r (after_parts limit p (line ∷ rs)) (λ e. Read (session_of e) rs))
-    → (e : Ending) (rs : List Line) → lines_after_header e (after_parts limit p (line ∷ rs)) ≡ Refuses why ∷ []
-query_refused limit p line r why is goes e rs =
-    let at : after_parts limit p (line ∷ rs) ≡ Refused why =
-    subst (λ (x : Result Editor Stop). Goes x (after_parts limit p (line ∷ rs)) (λ e. Read (session_of e) rs)) is (goes rs) in
+pub query_refused : (settings : Settings) (p : Parts) (line : Line) (r : Result Editor Stop) (why : Refusal) → r ≡ Err (stop.Refused why)
+    → ((rs : List Line) → Goes r (after_parts settings p (line ∷ rs)) (λ e. Read (session_of e) rs))
+    → (e : Ending) (rs : List Line) → lines_after_header e (after_parts settings p (line ∷ rs)) ≡ Refuses why ∷ []
+query_refused settings p line r why is goes e rs =
+    let at : after_parts settings p (line ∷ rs) ≡ Refused why =
+    subst (λ (x : Result Editor Stop). Goes x (after_parts settings p (line ∷ rs)) (λ e. Read (session_of e) rs)) is (goes rs) in
     ap (lines_after_header e) at

@@ -11,6 +11,7 @@ use Rattle.mm_job.specs.Items.{Items, NoMore, Unended, Single, Block, Rest, afte
 use Rattle.mm_job.specs.Laws.{WorkGrows}
 use Rattle.mm_job.specs.Output.{after_reply}
 use Rattle.mm_job.specs.Work.{afresh, block_applied, edit_work, is_full, items_work, kept_after, kept_for, line_applied, types_in, work, work_after}
+use Rattle.mm_job.specs.Settings.{Settings}
 use Rattle.mm_job.proofs.GrowthLemmas.{settled_next, settled_whole}
 use Rattle.mm_job.proofs.HeaderLemmas.{header_lines_steady}
 use Rattle.mm_job_text.specs.Readers.{Reading, Read, Refused, Short}
@@ -146,15 +147,15 @@ after_grows more (Read s rest) b p =
 after_grows more (Refused why) b p = omega arith
 after_grows more Short b p = omega arith
 
-pub work_goes_on : (limit : ℕ) (rs more : List Line) → work limit rs ≤ work limit (rs ++ more)
+pub work_goes_on : (settings : Settings) (rs more : List Line) → work settings rs ≤ work settings (rs ++ more)
 unfolding work
-work_goes_on limit rs more = after_grows more (header_lines limit rs) (header_lines limit (rs ++ more)) (header_lines_steady limit rs more)
+work_goes_on settings rs more = after_grows more (header_lines settings rs) (header_lines settings (rs ++ more)) (header_lines_steady settings rs more)
 
-front_works : (limit : ℕ) (rs all : List Line) → IsFront rs all → work limit rs ≤ work limit all
-front_works limit rs all p = subst (λ (l : List Line). work limit rs ≤ work limit l) p.1 (work_goes_on limit rs p.0)
+front_works : (settings : Settings) (rs all : List Line) → IsFront rs all → work settings rs ≤ work settings all
+front_works settings rs all p = subst (λ (l : List Line). work settings rs ≤ work settings l) p.1 (work_goes_on settings rs p.0)
 
-pub work_grows : (limit : ℕ) (a b : List ℕ) → WorkGrows limit a b
-work_grows limit a b = record {
-  longer = front_works limit (settled a) (settled (a ++ b)) (settled_next a b);
-  whole = front_works limit (settled a) (lines a) (subst (λ (t : List ℕ). IsFront (settled a) (lines t)) (append-nil a) (settled_whole a []));
+pub work_grows : (settings : Settings) (a b : List ℕ) → WorkGrows settings a b
+work_grows settings a b = record {
+  longer = front_works settings (settled a) (settled (a ++ b)) (settled_next a b);
+  whole = front_works settings (settled a) (lines a) (subst (λ (t : List ℕ). IsFront (settled a) (lines t)) (append-nil a) (settled_whole a []));
 }

@@ -1,4 +1,5 @@
 -- What a job is to its callers.
+use Rattle.std.proofs.Common.{refl}
 use Rattle.std.specs.Prelude.{◌≡◌, ℕ, ◌+◌, ◌≤◌, Bool, true, false, List, [], ◌∷◌, ◌++◌, take, Option, Ok, Err, IsErrOf, if◌then◌else◌}
 use Rattle.std.specs.Io.KnownBytes.{Appends}
 use Rattle.std.specs.declared.result.Result.{Result}
@@ -6,17 +7,25 @@ use Rattle.mm_base.specs.Causes.{GrowsByFront, Rose}
 use Rattle.mm_base.specs.declared.status.Status.TheVariants as status
 use Rattle.mm_lines.specs.Lines.{is_over, most_bytes}
 use Rattle.mm_job.specs.Output.{is_refusal, settled_lines}
+use Rattle.mm_job.specs.Settings.{Settings, settings_code}
+use Rattle.std.specs.Coded.{Coded, code_by, coded×, coded_ℕ, coded_bool, coded_list}
 use Rattle.mm_job.specs.declared.progress.JobFault.{JobFault}
 use Rattle.mm_job.specs.declared.progress.JobFault.TheVariants as fault
 use Rattle.mm_job.specs.declared.progress.Progress.{Progress}
 use Rattle.mm_job.specs.declared.progress.Progress.TheVariants.{More, Ended}
 use Rattle.mm_job.specs.declared.output_line.OutputLine.{OutputLine}
 
--- A job: the text so far, the limit on sizes, and whether it goes on.
+-- A job: the text so far, how it is asked, and whether it goes on.
 pub record JobValue : Type 0 where
   pub text : List ℕ
-  pub limit : ℕ
+  pub settings : Settings
   pub live : Bool
+
+-- How jobs are told apart.
+abbrev pub job_code : Coded JobValue
+job_code =
+    code_by (List ℕ × (Settings × Bool)) (coded× (coded_list coded_ℕ) (coded× settings_code coded_bool)) (λ j. (j.text, (j.settings, j.live)))
+    (λ p. record { text = p.0; settings = p.1.0; live = p.1.1 }) (λ j. refl)
 
 -- A text with a piece more, cut after the first byte that is too many.
 abbrev pub with_piece : List ℕ → List ℕ → List ℕ
@@ -40,9 +49,9 @@ begins_refused [] = false
 begins_refused (first ∷ rest) = is_refusal first
 
 -- A job ends where what is there refuses its header, and where its text has more bytes than are used; else more may come.
-abbrev pub progress : List ℕ → ℕ → Progress
-progress text limit =
-    if begins_refused (settled_lines text limit) then Ended status.Refused
+abbrev pub progress : List ℕ → Settings → Progress
+progress text settings =
+    if begins_refused (settled_lines text settings) then Ended status.Refused
     else if is_over text then Ended status.EditRefused
     else More
 

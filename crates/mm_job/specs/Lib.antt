@@ -1,3 +1,4 @@
+pub mod Settings
 pub mod Meaning
 pub mod Header
 pub mod Items

@@ -7,6 +7,7 @@ use Rattle.mm_job.specs.Edits.{Reply, Changed, Compared, Denied, single, block}
 use Rattle.mm_job.specs.Header.{Session, header}
 use Rattle.mm_job.specs.Items.{Items, NoMore, Unended, Single, Block, items}
 use Rattle.mm_job.specs.Meaning.{answer_line}
+use Rattle.mm_job.specs.Settings.{Settings}
 use Rattle.mm_job.specs.declared.output_line.OutputLine.{OutputLine}
 use Rattle.mm_job.specs.declared.output_line.OutputLine.TheVariants.{Says, Refuses}
 use Rattle.mm_lines.specs.Lines.{is_over, lines, settled}
@@ -58,18 +59,18 @@ lines_after_header e (Refused why) = Refuses why ∷ []
 lines_after_header e Short = cut_short e
 
 -- The lines that are written for some lines of a job.
-unfoldable pub written_lines : ℕ → Ending → List Line → List OutputLine
-written_lines limit e rs = lines_after_header e (header limit rs)
+unfoldable pub written_lines : Settings → Ending → List Line → List OutputLine
+written_lines settings e rs = lines_after_header e (header settings rs)
 
 abbrev pub ending : Ending → List ℕ → Ending
 ending e text = if is_over text then Over else e
 
 -- The lines of the output of a job, and those that are settled in a text that may go on.
-unfoldable pub output_lines : List ℕ → ℕ → List OutputLine
-output_lines text limit = written_lines limit (ending Ended text) (lines text)
+unfoldable pub output_lines : List ℕ → Settings → List OutputLine
+output_lines text settings = written_lines settings (ending Ended text) (lines text)
 
-unfoldable pub settled_lines : List ℕ → ℕ → List OutputLine
-settled_lines text limit = written_lines limit (ending More text) (settled text)
+unfoldable pub settled_lines : List ℕ → Settings → List OutputLine
+settled_lines text settings = written_lines settings (ending More text) (settled text)
 
 -- A line as it is written.
 abbrev pub printed : OutputLine → List ℕ
@@ -80,12 +81,12 @@ abbrev pub printed_all : List OutputLine → List ℕ
 printed_all output_line = flat_map printed output_line
 
 -- The output of a job.
-abbrev pub output : List ℕ → ℕ → List ℕ
-output text limit = printed_all (output_lines text limit)
+abbrev pub output : List ℕ → Settings → List ℕ
+output text settings = printed_all (output_lines text settings)
 
 -- The output that is settled in a text that may go on.
-abbrev pub settled_output : List ℕ → ℕ → List ℕ
-settled_output text limit = printed_all (settled_lines text limit)
+abbrev pub settled_output : List ℕ → Settings → List ℕ
+settled_output text settings = printed_all (settled_lines text settings)
 
 abbrev pub is_refusal : OutputLine → Bool
 is_refusal (Says text) = false
@@ -100,5 +101,5 @@ status_of (first ∷ rest) =
     else status.Done
 
 -- The status of a job.
-abbrev pub end_of : List ℕ → ℕ → Status
-end_of text limit = status_of (output_lines text limit)
+abbrev pub end_of : List ℕ → Settings → Status
+end_of text settings = status_of (output_lines text settings)

@@ -1,4 +1,5 @@
 -- Between code and definitions: what the state of a job makes of the lines that are left, and what it keeps.
+pub mod Questions
 pub mod Sessions
 pub mod Blocks
 pub mod Replies

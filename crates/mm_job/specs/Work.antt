@@ -6,6 +6,7 @@ use Rattle.mm_job.specs.Edits.{block, line_edit, replace_edit, single}
 use Rattle.mm_job.specs.Header.{Session, header_lines, is_over_limit}
 use Rattle.mm_job.specs.Items.{Items, NoMore, Unended, Single, Block, items}
 use Rattle.mm_job.specs.Output.{after_reply}
+use Rattle.mm_job.specs.Settings.{Settings}
 use Rattle.mm_job_text.specs.Arguments.{begins}
 use Rattle.mm_job_text.specs.Readers.{Reading, Read, Refused, Short}
 use Rattle.mm_lines.specs.Lines.{lines, settled}
@@ -72,12 +73,12 @@ work_after (Refused why) = 0
 work_after Short = 0
 
 -- The work of some lines of a job.
-unfoldable pub work : ℕ → List Line → ℕ
-work limit rs = work_after (header_lines limit rs)
+unfoldable pub work : Settings → List Line → ℕ
+work settings rs = work_after (header_lines settings rs)
 
 -- The bound on the work of a job, and on the work for what is settled of a text that may go on.
-abbrev pub bound_of : List ℕ → ℕ → ℕ
-bound_of text limit = work limit (lines text)
+abbrev pub bound_of : List ℕ → Settings → ℕ
+bound_of text settings = work settings (lines text)
 
-abbrev pub settled_work : List ℕ → ℕ → ℕ
-settled_work text limit = work limit (settled text)
+abbrev pub settled_work : List ℕ → Settings → ℕ
+settled_work text settings = work settings (settled text)

@@ -1,19 +1,16 @@
 //! What a job answers about.
-ghost use Rattle.std.specs.Prelude.{◌≡◌, ◌≤◌, ◌∷◌, ◌+◌, ◌++◌, ℕ, List, IfOk, OnOk, IfSome, None, Ok, Err, false, nat_abs, flat_map, codes};
+ghost use Rattle.std.specs.Prelude.{◌≡◌, ◌≤◌, ◌∷◌, ◌+◌, ◌++◌, [], IfOk, OnOk, IfSome, None, Ok, Err, false, nat_abs, flat_map, codes};
 ghost use Rattle.std.specs.Fmt.{signed_decimal};
-ghost use Rattle.mm_lines.specs.declared.line.Line.{Line as LineOf};
 ghost use Rattle.mm_edit.specs.declared.fault.EditFault.{EditFault as FaultOf};
 ghost use Rattle.mm_header.specs.QueryValues.{query_value};
 ghost use Rattle.mm_header.specs.State.HeaderStates.{IsHeader, header_value};
 ghost use Rattle.mm_job.specs.Edits.{another_weight, exchanged, replaced_path};
-ghost use Rattle.mm_job.specs.Header.{after_parts, query_part};
+ghost use Rattle.mm_header.specs.Queries.Question.{Minor, Spelled};
+ghost use Rattle.mm_job.specs.Header.{query_part, session_part};
 ghost use Rattle.mm_job.specs.Output.{answered};
-ghost use Rattle.mm_job.specs.State.Replies.{RepliesToEdit, SpendsEdit, SpendsStart, answer_text, edit_stop};
+ghost use Rattle.mm_job.specs.State.Replies.{RepliesToEdit, SpendsEdit, Starts, answer_text, edit_stop};
 ghost use Rattle.mm_job.specs.State.Sessions.{IsEditor, session_of};
-ghost use Rattle.mm_job.specs.Work.{work_after};
 ghost use Rattle.mm_job.specs.declared.output_line.OutputLine.TheVariants.{Refuses, Says};
-ghost use Rattle.mm_job_text.specs.Becoming.{Goes};
-ghost use Rattle.mm_job_text.specs.Readers.{Read};
 ghost use Rattle.mm_job_text.specs.declared.refusal.Refusal.{Refusal as RefusalOf};
 ghost use Rattle.mm_job_text.specs.declared.refusal.Stop.TheVariants as stops;
 ghost use Rattle.mm_nodes.specs.declared.TheConstants.{MAX_LIMIT};
@@ -31,11 +28,12 @@ ghost use Rattle.mm_tree.specs.ValidTree.{IsValidTree, most_weight};
 
 use crate::edit::{Above, NewWeight};
 use crate::output_line::{OutputLine, says};
+use crate::settings::Settings;
 use mm_base::{Name, NameList, NoMemory, Steps, Text};
 use mm_edit::{Answer, EditFault, Query, Session, StartFault};
 use mm_field::Field;
 use mm_formula::Scoped;
-use mm_header::{HeaderData, Question, match_rows, read_query};
+use mm_header::{HeaderData, match_rows, read_minor, read_query};
 use mm_job_text::{Limit, Refusal, Stop};
 use mm_least::Best;
 use mm_lines::Line;
@@ -202,24 +200,6 @@ pub fn node_refusal(editor: &Editor, above: &Above) -> Option<Refusal>
     }
 }
 
-/// The query of the query line after a header and its tree, where the rows and the tree agree.
-#[tactic(auto, unfolding(crate::specs::Header::query_part))]
-fn checked_query(
-    alloc: Global,
-    header: &HeaderData,
-    tree: &Tree,
-    line: &Line,
-) -> Result<Scoped, Stop>
-    requires header { IsHeader header.now }
-    requires tree { tree.now.f ≡ header.now.field }
-    ensures goes { (limit : ℕ) (rs : List LineOf) → Goes result (query_part limit (header_value header.now, tree.now.tree) (line.now ∷ rs))
-        (λ query. Read (session_with limit header.now (query_value query) tree.now.tree) rs) }
-{
-    let query = read_query(alloc, Question::Spelled, line)?;
-    match_rows(alloc, header, tree)?;
-    Ok(query)
-}
-
 /// What a scoped formula asks.
 fn kind_of(query: &Scoped) -> Query
     ensures { result ≡ kind_of query.now }
@@ -278,10 +258,33 @@ fn begin<L: Ledger>(
     }
 }
 
-/// Takes the query line after a header and its tree.
-pub fn start<L: Ledger>(
+/// Begins with a query on the tree of a header, where the rows and the tree agree.
+fn start_query<L: Ledger>(
     alloc: Global,
     limit: u64,
+    header: HeaderData,
+    tree: Tree,
+    query: &Scoped,
+    steps: &mut Steps<L>,
+) -> Result<Editor, Stop>
+    requires header { IsHeader header }
+    requires tree { tree.f ≡ header.field }
+    requires limit { limit ≤ MAX_LIMIT }
+    ensures { Starts (session_part limit (header_value header, tree.tree) (query_value query.now)) [] result steps.old steps.new }
+{
+    match match_rows(alloc, &header, &tree) {
+        Ok(()) => match machine_of(alloc, header.field, query) {
+            Ok(machine) => begin(alloc, limit, header, tree, kind_of(query), machine, steps),
+            Err(_) => Err(Stop::NoMemory),
+        },
+        Err(stop) => Err(stop),
+    }
+}
+
+/// Takes the query line, where it spells the query.
+fn start_spelled<L: Ledger>(
+    alloc: Global,
+    settings: &Settings,
     header: HeaderData,
     tree: Tree,
     line: &Line,
@@ -289,17 +292,51 @@ pub fn start<L: Ledger>(
 ) -> Result<Editor, Stop>
     requires header { IsHeader header }
     requires tree { tree.f ≡ header.field }
-    requires limit { limit ≤ MAX_LIMIT }
-    ensures editor { IfOk result IsEditor }
-    ensures goes { (rs : List LineOf) →
-        Goes result (after_parts limit (header_value header, tree.tree) (line.now ∷ rs)) (λ e. Read (session_of e) rs) }
-    ensures steps { SpendsStart (λ rs. work_after (query_part limit (header_value header, tree.tree) rs)) line.now result steps.old steps.new }
+    requires spelled { settings.now.question ≡ Spelled }
+    ensures { Starts (query_part settings.now (header_value header, tree.tree)) (line.now ∷ []) result steps.old steps.new }
 {
-    match checked_query(alloc, &header, &tree, line) {
-        Ok(query) => match machine_of(alloc, header.field, &query) {
-            Ok(machine) => begin(alloc, limit, header, tree, kind_of(&query), machine, steps),
-            Err(_) => Err(Stop::NoMemory),
-        },
+    match read_query(alloc, line) {
+        Ok(query) => start_query(alloc, settings.limit(), header, tree, &query, steps),
         Err(stop) => Err(stop),
+    }
+}
+
+/// Takes the query line, where the word `minor` stands for this query.
+fn start_given<L: Ledger>(
+    alloc: Global,
+    settings: &Settings,
+    header: HeaderData,
+    tree: Tree,
+    query: &Scoped,
+    line: &Line,
+    steps: &mut Steps<L>,
+) -> Result<Editor, Stop>
+    requires header { IsHeader header }
+    requires tree { tree.f ≡ header.field }
+    requires given { settings.now.question ≡ Minor (query_value query.now) }
+    ensures { Starts (query_part settings.now (header_value header, tree.tree)) (line.now ∷ []) result steps.old steps.new }
+{
+    match read_minor(line) {
+        Ok(()) => start_query(alloc, settings.limit(), header, tree, query, steps),
+        Err(refusal) => Err(Stop::Refused(refusal)),
+    }
+}
+
+/// Takes the query line after a header and its tree.
+pub fn start<L: Ledger>(
+    alloc: Global,
+    settings: &Settings,
+    header: HeaderData,
+    tree: Tree,
+    line: &Line,
+    steps: &mut Steps<L>,
+) -> Result<Editor, Stop>
+    requires header { IsHeader header }
+    requires tree { tree.f ≡ header.field }
+    ensures { Starts (query_part settings.now (header_value header, tree.tree)) (line.now ∷ []) result steps.old steps.new }
+{
+    match settings.given() {
+        None => start_spelled(alloc, settings, header, tree, line, steps),
+        Some(query) => start_given(alloc, settings, header, tree, query, line, steps),
     }
 }

@@ -15,10 +15,11 @@ ghost use Rattle.mm_job.specs.State.Spending.{Spends, SpendsAtMost};
 ghost use Rattle.mm_job.specs.State.Stages.{IsKeptAt, lines_from_stage, work_from_stage};
 ghost use Rattle.mm_job.specs.Calls.{SpendsOnText};
 ghost use Rattle.mm_job.specs.Work.{bound_of};
-ghost use Rattle.mm_nodes.specs.declared.TheConstants.{MAX_LIMIT};
+ghost use Rattle.mm_job.specs.Settings.{Settings};
 
 use crate::output_line::OutputLine;
 use crate::progress::JobFault;
+use crate::settings::Settings;
 use crate::state::{JobState, after_step, last_output_line, status_at};
 use mm_base::{NoMemory, Sink, SinkFault, Status, Steps, Text, write_all};
 use mm_job_text::words;
@@ -77,24 +78,23 @@ fn write_output_line<K: Sink>(
 /// Takes a line, and writes what it says.
 fn take_written<K: Sink, L: Ledger>(
     alloc: Global,
-    limit: u64,
+    settings: &Settings,
     state: &mut JobState,
     line: &Line,
     out: &mut K,
     steps: &mut Steps<L>,
 ) -> Result<(), JobFault>
-    requires limit { limit ≤ MAX_LIMIT }
     requires kept { IsKeptAt state.old.stage }
     ensures kept { IfOk result (λ u. IsKeptAt state.new.stage) }
-    ensures fed { OnOk result (FedLine limit state.old state.new line.now (K.held out.old) (K.held out.new)) }
+    ensures fed { OnOk result (FedLine settings.now state.old state.new line.now (K.held out.old) (K.held out.new)) }
     ensures front { OnErr result ((e : Ending) (rs : List LineOf) →
-        GrowsByFront (K.held out.old) (K.held out.new) (printed_all (lines_from_stage limit state.old.stage e (line.now ∷ rs)))) }
+        GrowsByFront (K.held out.old) (K.held out.new) (printed_all (lines_from_stage settings.now state.old.stage e (line.now ∷ rs)))) }
     ensures cause { HasJobCause (K.faults out.old) (K.faults out.new) result }
-    ensures spends { OnOk result (Spends (work_from_stage limit state.old.stage) (work_from_stage limit state.new.stage)
+    ensures spends { OnOk result (Spends (work_from_stage settings.now state.old.stage) (work_from_stage settings.now state.new.stage)
         (line.now ∷ []) [] steps.old steps.new) }
-    ensures most { OnErr result (SpendsAtMost (work_from_stage limit state.old.stage) (line.now ∷ []) steps.old steps.new) }
+    ensures most { OnErr result (SpendsAtMost (work_from_stage settings.now state.old.stage) (line.now ∷ []) steps.old steps.new) }
 {
-    let output_line = state.take(alloc, limit, line, steps)?;
+    let output_line = state.take(alloc, settings, line, steps)?;
     write_output_line(alloc, output_line, out)?;
     Ok(())
 }
@@ -102,63 +102,61 @@ fn take_written<K: Sink, L: Ledger>(
 /// Takes the next line of the stream, and writes what it says. Whether there was one.
 fn take_next<K: Sink, L: Ledger>(
     alloc: Global,
-    limit: u64,
+    settings: &Settings,
     state: &mut JobState,
     framer: &mut Framer,
     out: &mut K,
     steps: &mut Steps<L>,
 ) -> Result<bool, JobFault>
-    requires limit { limit ≤ MAX_LIMIT }
     requires kept { IsKeptAt state.old.stage }
     requires within { IsWithin framer.old }
     ensures kept { IfOk result (λ more. IsKeptAt state.new.stage) }
-    ensures fed { OnOk result (Fed limit state.old state.new (left framer.old) (left framer.new) (K.held out.old) (K.held out.new)) }
+    ensures fed { OnOk result (Fed settings.now state.old state.new (left framer.old) (left framer.new) (K.held out.old) (K.held out.new)) }
     ensures more { IfOk result (λ more. more ≡ true → length (left framer.new) < length (left framer.old)) }
     ensures all { IfOk result (λ more. more ≡ false → left framer.new ≡ []) }
     ensures front { OnErr result ((e : Ending) →
-        GrowsByFront (K.held out.old) (K.held out.new) (printed_all (lines_from_stage limit state.old.stage e (left framer.old)))) }
+        GrowsByFront (K.held out.old) (K.held out.new) (printed_all (lines_from_stage settings.now state.old.stage e (left framer.old)))) }
     ensures cause { HasJobCause (K.faults out.old) (K.faults out.new) result }
     ensures within { IsWithin framer.new }
     ensures bytes { framer.new.bytes ≡ framer.old.bytes }
     ensures ended { framer.new.ended ≡ framer.old.ended }
-    ensures spends { OnOk result (Spends (work_from_stage limit state.old.stage) (work_from_stage limit state.new.stage)
+    ensures spends { OnOk result (Spends (work_from_stage settings.now state.old.stage) (work_from_stage settings.now state.new.stage)
         (left framer.old) (left framer.new) steps.old steps.new) }
-    ensures most { OnErr result (SpendsAtMost (work_from_stage limit state.old.stage) (left framer.old) steps.old steps.new) }
+    ensures most { OnErr result (SpendsAtMost (work_from_stage settings.now state.old.stage) (left framer.old) steps.old steps.new) }
 {
     let Some(line) = framer.next_line(alloc)? else {
         return Ok(false);
     };
-    take_written(alloc, limit, state, &line, out, steps)?;
+    take_written(alloc, settings, state, &line, out, steps)?;
     Ok(true)
 }
 
 /// Takes all lines of the stream that are closed or known to be too long, and writes what each says.
 fn feed_lines<K: Sink, L: Ledger>(
     alloc: Global,
-    limit: u64,
+    settings: &Settings,
     state: &mut JobState,
     framer: &mut Framer,
     out: &mut K,
     steps: &mut Steps<L>,
 ) -> Result<(), JobFault>
-    requires limit { limit ≤ MAX_LIMIT }
     requires kept { IsKeptAt state.old.stage }
     requires within { IsWithin framer.old }
     ensures kept { IfOk result (λ u. IsKeptAt state.new.stage) }
-    ensures fed { OnOk result (Fed limit state.old state.new (left framer.old) (left framer.new) (K.held out.old) (K.held out.new)) }
+    ensures fed { OnOk result (Fed settings.now state.old state.new (left framer.old) (left framer.new) (K.held out.old) (K.held out.new)) }
     ensures all { OnOk result (left framer.new ≡ []) }
     ensures front { OnErr result ((e : Ending) →
-        GrowsByFront (K.held out.old) (K.held out.new) (printed_all (lines_from_stage limit state.old.stage e (left framer.old)))) }
+        GrowsByFront (K.held out.old) (K.held out.new) (printed_all (lines_from_stage settings.now state.old.stage e (left framer.old)))) }
     ensures cause { HasJobCause (K.faults out.old) (K.faults out.new) result }
     ensures within { IsWithin framer.new }
     ensures bytes { framer.new.bytes ≡ framer.old.bytes }
     ensures ended { framer.new.ended ≡ framer.old.ended }
-    ensures spends { OnOk result (Spends (work_from_stage limit state.old.stage) (work_from_stage limit state.new.stage)
+    ensures spends { OnOk result (Spends (work_from_stage settings.now state.old.stage) (work_from_stage settings.now state.new.stage)
         (left framer.old) (left framer.new) steps.old steps.new) }
-    ensures most { OnErr result (SpendsAtMost (work_from_stage limit state.old.stage) (left framer.old) steps.old steps.new) }
+    ensures most { OnErr result (SpendsAtMost (work_from_stage settings.now state.old.stage) (left framer.old) steps.old steps.new) }
 {
     'lines: loop {
-        let more = take_next(alloc, limit, state, framer, out, steps)?;
+        let more = take_next(alloc, settings, state, framer, out, steps)?;
         if !more {
             return Ok(());
         }
@@ -172,10 +170,10 @@ fn end_state<K: Sink>(
     over: bool,
     out: &mut K,
 ) -> Result<Status, JobFault>
-    ensures status { IfOk result (λ s. (limit : ℕ) → s ≡ status_at (come_to state.now.status (last_lines limit state.now.stage over))) }
-    ensures wrote { OnOk result ((limit : ℕ) → Appends (K.held out.old) (K.held out.new) (last_text limit state.now.stage over)) }
-    ensures front { OnErr result ((limit : ℕ) →
-        GrowsByFront (K.held out.old) (K.held out.new) (last_text limit state.now.stage over)) }
+    ensures status { IfOk result (λ s. (settings : Settings) → s ≡ status_at (come_to state.now.status (last_lines settings state.now.stage over))) }
+    ensures wrote { OnOk result ((settings : Settings) → Appends (K.held out.old) (K.held out.new) (last_text settings state.now.stage over)) }
+    ensures front { OnErr result ((settings : Settings) →
+        GrowsByFront (K.held out.old) (K.held out.new) (last_text settings state.now.stage over)) }
     ensures cause { HasJobCause (K.faults out.old) (K.faults out.new) result }
 {
     let output_line = last_output_line(&state.stage, over);
@@ -187,71 +185,68 @@ fn end_state<K: Sink>(
 /// Takes a piece of a text, and writes what it settles.
 pub fn take_piece<K: Sink, L: Ledger>(
     alloc: Global,
-    limit: u64,
+    settings: &Settings,
     state: &mut JobState,
     framer: &mut Framer,
     piece: &[u8],
     out: &mut K,
     steps: &mut Steps<L>,
 ) -> Result<(), JobFault>
-    requires limit { limit ≤ MAX_LIMIT }
-    requires stands { Stands limit framer.old.bytes state.old }
+    requires stands { Stands settings.now framer.old.bytes state.old }
     requires stream { IsRead framer.old }
     requires size { length framer.old.bytes + length piece.now ≤ most_bytes }
-    ensures stands { OnOk result (Stands limit (framer.old.bytes ++ piece.now) state.new) }
+    ensures stands { OnOk result (Stands settings.now (framer.old.bytes ++ piece.now) state.new) }
     ensures stream { OnOk result (IsRead framer.new) }
     ensures bytes { OnOk result (framer.new.bytes ≡ framer.old.bytes ++ piece.now) }
-    ensures wrote { OnOk result (GrewByPiece (K.held out.old) (K.held out.new) limit framer.old.bytes piece.now) }
-    ensures front { OnErr result (GrewByFrontOfPiece (K.held out.old) (K.held out.new) limit framer.old.bytes piece.now) }
+    ensures wrote { OnOk result (GrewByPiece (K.held out.old) (K.held out.new) settings.now framer.old.bytes piece.now) }
+    ensures front { OnErr result (GrewByFrontOfPiece (K.held out.old) (K.held out.new) settings.now framer.old.bytes piece.now) }
     ensures cause { HasJobCause (K.faults out.old) (K.faults out.new) result }
-    ensures steps { SpendsOnText steps.old steps.new (work_at limit framer.old.bytes) (work_at limit (framer.old.bytes ++ piece.now)) }
+    ensures steps { SpendsOnText steps.old steps.new (work_at settings.now framer.old.bytes) (work_at settings.now (framer.old.bytes ++ piece.now)) }
 {
     framer.feed(alloc, piece)?;
-    feed_lines(alloc, limit, state, framer, out, steps)
+    feed_lines(alloc, settings, state, framer, out, steps)
 }
 
 /// Takes the last piece that is used of a text with more bytes, and writes what it settles and that the text is too long.
 pub fn take_last<K: Sink, L: Ledger>(
     alloc: Global,
-    limit: u64,
+    settings: &Settings,
     state: &mut JobState,
     framer: &mut Framer,
     piece: &[u8],
     out: &mut K,
     steps: &mut Steps<L>,
 ) -> Result<Status, JobFault>
-    requires limit { limit ≤ MAX_LIMIT }
-    requires stands { Stands limit framer.old.bytes state.old }
+    requires stands { Stands settings.now framer.old.bytes state.old }
     requires stream { IsRead framer.old }
     requires size { length framer.old.bytes + length piece.now ≤ most_bytes }
-    ensures status { IfOk result (λ s. s ≡ status_of (written_lines limit Over (settled (framer.old.bytes ++ piece.now)))) }
+    ensures status { IfOk result (λ s. s ≡ status_of (written_lines settings.now Over (settled (framer.old.bytes ++ piece.now)))) }
     ensures writes { Writes K.held K.faults out.old out.new
-        (written_at More limit framer.old.bytes) (written_at Over limit (framer.old.bytes ++ piece.now)) result }
-    ensures steps { SpendsOnText steps.old steps.new (work_at limit framer.old.bytes) (work_at limit (framer.old.bytes ++ piece.now)) }
+        (written_at More settings.now framer.old.bytes) (written_at Over settings.now (framer.old.bytes ++ piece.now)) result }
+    ensures steps { SpendsOnText steps.old steps.new (work_at settings.now framer.old.bytes) (work_at settings.now (framer.old.bytes ++ piece.now)) }
 {
-    take_piece(alloc, limit, state, framer, piece, out, steps)?;
+    take_piece(alloc, settings, state, framer, piece, out, steps)?;
     end_state(alloc, state, true, out)
 }
 
 /// Takes the end of a text, and writes the rest of the output.
 pub fn take_text_end<K: Sink, L: Ledger>(
     alloc: Global,
-    limit: u64,
+    settings: &Settings,
     state: &mut JobState,
     framer: &mut Framer,
     out: &mut K,
     steps: &mut Steps<L>,
 ) -> Result<Status, JobFault>
-    requires limit { limit ≤ MAX_LIMIT }
-    requires stands { Stands limit framer.old.bytes state.old }
+    requires stands { Stands settings.now framer.old.bytes state.old }
     requires stream { IsRead framer.old }
     requires size { length framer.old.bytes ≤ most_bytes }
-    ensures status { IfOk result (λ s. s ≡ end_of framer.old.bytes limit) }
+    ensures status { IfOk result (λ s. s ≡ end_of framer.old.bytes settings.now) }
     ensures writes { Writes K.held K.faults out.old out.new
-        (written_at More limit framer.old.bytes) (output framer.old.bytes limit) result }
-    ensures steps { SpendsOnText steps.old steps.new (work_at limit framer.old.bytes) (bound_of framer.old.bytes limit) }
+        (written_at More settings.now framer.old.bytes) (output framer.old.bytes settings.now) result }
+    ensures steps { SpendsOnText steps.old steps.new (work_at settings.now framer.old.bytes) (bound_of framer.old.bytes settings.now) }
 {
     framer.finish();
-    feed_lines(alloc, limit, state, framer, out, steps)?;
+    feed_lines(alloc, settings, state, framer, out, steps)?;
     end_state(alloc, state, false, out)
 }

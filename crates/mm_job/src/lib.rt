@@ -14,6 +14,7 @@ mod job;
 mod laws;
 mod output_line;
 mod progress;
+mod settings;
 mod stage;
 mod state;
 

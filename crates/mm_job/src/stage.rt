@@ -4,11 +4,12 @@ ghost use Rattle.mm_lines.specs.declared.line.Line.{Line as LineOf};
 ghost use Rattle.mm_job.specs.State.Spending.{Spends, SpendsAtMost};
 ghost use Rattle.mm_job.specs.State.Stages.{IsFirst, IsKeptAt, TakesLine, work_from_stage};
 ghost use Rattle.mm_job.specs.declared.stage.Stage.TheVariants as stages;
-ghost use Rattle.mm_nodes.specs.declared.TheConstants.{MAX_LIMIT};
+ghost use Rattle.mm_job.specs.Settings.{Settings};
 
 use crate::block::Block;
 use crate::editor::{Editor, answer, start};
 use crate::output_line::OutputLine;
+use crate::settings::Settings;
 use mm_base::{NoMemory, Steps};
 use mm_header::{HeaderData, HeaderRules, HeaderState, HeaderStep, take_header_line};
 use mm_job_text::Stop;
@@ -43,9 +44,9 @@ pub struct LineStep {
 fn take_header(alloc: Global, header: HeaderState, line: &Line) -> Result<LineStep, NoMemory>
     requires kept { IsKeptAt (stages.Header header) }
     ensures kept { IfOk result (λ taken. IsKeptAt taken.stage) }
-    ensures step { IfOk result (λ taken. (limit : ℕ) → TakesLine limit (stages.Header header) line.now taken.output_line taken.stage) }
-    ensures works { IfOk result (λ taken. (limit : ℕ) (rs : List LineOf) →
-        work_from_stage limit (stages.Header header) (line.now ∷ rs) ≡ work_from_stage limit taken.stage rs) }
+    ensures step { IfOk result (λ taken. (settings : Settings) → TakesLine settings (stages.Header header) line.now taken.output_line taken.stage) }
+    ensures works { IfOk result (λ taken. (settings : Settings) (rs : List LineOf) →
+        work_from_stage settings (stages.Header header) (line.now ∷ rs) ≡ work_from_stage settings taken.stage rs) }
 {
     match take_header_line(alloc, HeaderRules::of_job(), header, line) {
         Ok(HeaderStep::More(header)) => Ok(LineStep {
@@ -67,21 +68,20 @@ fn take_header(alloc: Global, header: HeaderState, line: &Line) -> Result<LineSt
 /// Takes the query line.
 fn take_query<L: Ledger>(
     alloc: Global,
-    limit: u64,
+    settings: &Settings,
     header: HeaderData,
     tree: Tree,
     line: &Line,
     steps: &mut Steps<L>,
 ) -> Result<LineStep, NoMemory>
-    requires limit { limit ≤ MAX_LIMIT }
     requires kept { IsKeptAt (stages.Query header tree) }
     ensures kept { IfOk result (λ taken. IsKeptAt taken.stage) }
-    ensures step { IfOk result (λ taken. TakesLine limit (stages.Query header tree) line.now taken.output_line taken.stage) }
-    ensures spends { IfOk result (λ taken. Spends (work_from_stage limit (stages.Query header tree)) (work_from_stage limit taken.stage)
+    ensures step { IfOk result (λ taken. TakesLine settings.now (stages.Query header tree) line.now taken.output_line taken.stage) }
+    ensures spends { IfOk result (λ taken. Spends (work_from_stage settings.now (stages.Query header tree)) (work_from_stage settings.now taken.stage)
         (line.now ∷ []) [] steps.old steps.new) }
-    ensures most { OnErr result (SpendsAtMost (work_from_stage limit (stages.Query header tree)) (line.now ∷ []) steps.old steps.new) }
+    ensures most { OnErr result (SpendsAtMost (work_from_stage settings.now (stages.Query header tree)) (line.now ∷ []) steps.old steps.new) }
 {
-    match start(alloc, limit, header, tree, line, steps) {
+    match start(alloc, settings, header, tree, line, steps) {
         Ok(editor) => {
             let output_line = answer(alloc, &editor)?;
             Ok(LineStep {
@@ -100,23 +100,22 @@ fn take_query<L: Ledger>(
 /// Takes a line of the header or the query line.
 pub fn take_first_line<L: Ledger>(
     alloc: Global,
-    limit: u64,
+    settings: &Settings,
     stage: Stage,
     line: &Line,
     steps: &mut Steps<L>,
 ) -> Result<LineStep, NoMemory>
-    requires limit { limit ≤ MAX_LIMIT }
     requires kept { IsKeptAt stage }
     requires first { IsFirst stage }
     ensures kept { IfOk result (λ taken. IsKeptAt taken.stage) }
-    ensures step { IfOk result (λ taken. TakesLine limit stage line.now taken.output_line taken.stage) }
-    ensures spends { IfOk result (λ taken. Spends (work_from_stage limit stage) (work_from_stage limit taken.stage)
+    ensures step { IfOk result (λ taken. TakesLine settings.now stage line.now taken.output_line taken.stage) }
+    ensures spends { IfOk result (λ taken. Spends (work_from_stage settings.now stage) (work_from_stage settings.now taken.stage)
         (line.now ∷ []) [] steps.old steps.new) }
-    ensures most { OnErr result (SpendsAtMost (work_from_stage limit stage) (line.now ∷ []) steps.old steps.new) }
+    ensures most { OnErr result (SpendsAtMost (work_from_stage settings.now stage) (line.now ∷ []) steps.old steps.new) }
 {
     match stage {
         Stage::Header(header) => take_header(alloc, header, line),
-        Stage::Query(header, tree) => take_query(alloc, limit, header, tree, line, steps),
+        Stage::Query(header, tree) => take_query(alloc, settings, header, tree, line, steps),
         stage => Ok(LineStep {
             output_line: None,
             stage,

@@ -6,13 +6,14 @@ ghost use Rattle.mm_job.specs.Header.{Session};
 ghost use Rattle.mm_job.specs.Output.{cut_short, is_refusal};
 ghost use Rattle.mm_job.specs.State.Spending.{Spends, SpendsAtMost};
 ghost use Rattle.mm_job.specs.State.Stages.{IsFirst, IsKeptAt, TakesLine, lines_from_stage, work_from_stage};
-ghost use Rattle.mm_nodes.specs.declared.TheConstants.{MAX_LIMIT};
+ghost use Rattle.mm_job.specs.Settings.{Settings};
 ghost use Rattle.mm_header.specs.declared.state.HeaderState.TheVariants as headers;
 ghost use Rattle.mm_job.specs.declared.stage.Stage.TheVariants as stages;
 
 use crate::block::Block;
 use crate::items::take_item;
 use crate::output_line::OutputLine;
+use crate::settings::Settings;
 use crate::stage::{LineStep, Stage, take_first_line};
 use mm_base::{NoMemory, Status, Steps};
 use mm_header::HeaderState;
@@ -117,7 +118,7 @@ fn last_of_items(block: &Option<Block>, over: bool) -> Option<OutputLine>
 
 /// What is written at the end of a text, or where it has more bytes than are used.
 pub fn last_output_line(stage: &Stage, over: bool) -> Option<OutputLine>
-    ensures { (limit : ℕ) → written result ≡ lines_from_stage limit stage.now (end_by over) [] }
+    ensures { (settings : Settings) → written result ≡ lines_from_stage settings stage.now (end_by over) [] }
 {
     match stage {
         Stage::Header(_) => Some(cut_short(over)),
@@ -132,22 +133,21 @@ impl JobState {
     fn take_first<L: Ledger>(
         &mut self,
         alloc: Global,
-        limit: u64,
+        settings: &Settings,
         line: &Line,
         steps: &mut Steps<L>,
     ) -> Result<Option<OutputLine>, NoMemory>
-        requires limit { limit ≤ MAX_LIMIT }
         requires kept { IsKeptAt self.old.stage }
         requires first { IsFirst self.old.stage }
         ensures kept { IfOk result (λ output. IsKeptAt self.new.stage) }
-        ensures step { IfOk result (λ output. TakesLine limit self.old.stage line.now output self.new.stage) }
-        ensures spends { IfOk result (λ output. Spends (work_from_stage limit self.old.stage) (work_from_stage limit self.new.stage)
+        ensures step { IfOk result (λ output. TakesLine settings.now self.old.stage line.now output self.new.stage) }
+        ensures spends { IfOk result (λ output. Spends (work_from_stage settings.now self.old.stage) (work_from_stage settings.now self.new.stage)
             (line.now ∷ []) [] steps.old steps.new) }
-        ensures most { OnErr result (SpendsAtMost (work_from_stage limit self.old.stage) (line.now ∷ []) steps.old steps.new) }
+        ensures most { OnErr result (SpendsAtMost (work_from_stage settings.now self.old.stage) (line.now ∷ []) steps.old steps.new) }
         ensures status { IfOk result (λ output. self.new.status ≡ self.old.status) }
     {
         let stage = mem::replace(&mut self.stage, Stage::Refused);
-        let LineStep { output_line, stage } = take_first_line(alloc, limit, stage, line, steps)?;
+        let LineStep { output_line, stage } = take_first_line(alloc, settings, stage, line, steps)?;
         self.stage = stage;
         Ok(output_line)
     }
@@ -156,22 +156,21 @@ impl JobState {
     fn take_line<L: Ledger>(
         &mut self,
         alloc: Global,
-        limit: u64,
+        settings: &Settings,
         line: &Line,
         steps: &mut Steps<L>,
     ) -> Result<Option<OutputLine>, NoMemory>
-        requires limit { limit ≤ MAX_LIMIT }
         requires kept { IsKeptAt self.old.stage }
         ensures kept { IfOk result (λ output. IsKeptAt self.new.stage) }
-        ensures step { IfOk result (λ output. TakesLine limit self.old.stage line.now output self.new.stage) }
-        ensures spends { IfOk result (λ output. Spends (work_from_stage limit self.old.stage) (work_from_stage limit self.new.stage)
+        ensures step { IfOk result (λ output. TakesLine settings.now self.old.stage line.now output self.new.stage) }
+        ensures spends { IfOk result (λ output. Spends (work_from_stage settings.now self.old.stage) (work_from_stage settings.now self.new.stage)
             (line.now ∷ []) [] steps.old steps.new) }
-        ensures most { OnErr result (SpendsAtMost (work_from_stage limit self.old.stage) (line.now ∷ []) steps.old steps.new) }
+        ensures most { OnErr result (SpendsAtMost (work_from_stage settings.now self.old.stage) (line.now ∷ []) steps.old steps.new) }
         ensures status { IfOk result (λ output. self.new.status ≡ self.old.status) }
     {
         match &mut self.stage {
             Stage::Items(editor, block) => take_item(alloc, editor, block, line, steps),
-            _ => self.take_first(alloc, limit, line, steps),
+            _ => self.take_first(alloc, settings, line, steps),
         }
     }
 
@@ -179,20 +178,19 @@ impl JobState {
     pub fn take<L: Ledger>(
         &mut self,
         alloc: Global,
-        limit: u64,
+        settings: &Settings,
         line: &Line,
         steps: &mut Steps<L>,
     ) -> Result<Option<OutputLine>, NoMemory>
-        requires limit { limit ≤ MAX_LIMIT }
         requires kept { IsKeptAt self.old.stage }
         ensures kept { IfOk result (λ output. IsKeptAt self.new.stage) }
-        ensures step { IfOk result (λ output. TakesLine limit self.old.stage line.now output self.new.stage) }
-        ensures spends { IfOk result (λ output. Spends (work_from_stage limit self.old.stage) (work_from_stage limit self.new.stage)
+        ensures step { IfOk result (λ output. TakesLine settings.now self.old.stage line.now output self.new.stage) }
+        ensures spends { IfOk result (λ output. Spends (work_from_stage settings.now self.old.stage) (work_from_stage settings.now self.new.stage)
             (line.now ∷ []) [] steps.old steps.new) }
-        ensures most { OnErr result (SpendsAtMost (work_from_stage limit self.old.stage) (line.now ∷ []) steps.old steps.new) }
+        ensures most { OnErr result (SpendsAtMost (work_from_stage settings.now self.old.stage) (line.now ∷ []) steps.old steps.new) }
         ensures status { IfOk result (λ output. self.new.status ≡ come_to self.old.status (written output)) }
     {
-        let output_line = self.take_line(alloc, limit, line, steps)?;
+        let output_line = self.take_line(alloc, settings, line, steps)?;
         self.status = after_step(self.status, &output_line);
         Ok(output_line)
     }

@@ -1,5 +1,5 @@
 -- What the output of a job has of the edits that it comes to, and the limit that its trees keep.
-use Rattle.std.proofs.Common.{◌≡◌, ℕ, Bool, true, false, not, List, refl, sym, ap, subst, ◌∙◌}
+use Rattle.std.proofs.Common.{◌≡◌, Bool, true, false, not, List, refl, sym, ap, subst, ◌∙◌}
 use Rattle.std.specs.Prelude.{codes, Ok, Err, if◌then◌else◌}
 use Rattle.std.specs.declared.result.Result.{Result}
 use Rattle.mm_edit.proofs.WeightLemmas.{shape_stays}
@@ -9,6 +9,7 @@ use Rattle.mm_job.specs.Header.{Session, header, header_lines, is_over_limit, st
 use Rattle.mm_job.specs.Items.{Items}
 use Rattle.mm_job.specs.Meaning.{answer_line, truth_line}
 use Rattle.mm_job.specs.Output.{after_reply}
+use Rattle.mm_job.specs.Settings.{Settings}
 use Rattle.mm_job_laws.specs.AnswerLaws.{ComesTo}
 use Rattle.mm_job_laws.specs.EditLaws.{DecisionsIgnoreWeights, OutputAnswersReplacements, OutputAnswersWeights, SessionsMayBegin}
 use Rattle.mm_job_laws.proofs.AnswerLemmas.{headers_give_sessions}
@@ -29,17 +30,17 @@ use Rattle.mm_tree.specs.NamedTree.{Tree}
 -- ---- edits
 
 pub output_answers_weights : OutputAnswersWeights
-output_answers_weights limit text rest s t r name weight more read comes h =
-    let sound = (headers_give_sessions limit (lines text) rest s read).1 in (
+output_answers_weights settings text rest s t r name weight more asked read comes h =
+    let sound = (headers_give_sessions settings (lines text) rest s asked read).1 in (
       weights_are_answered t r name weight (keeps sound comes) h,
-      single_line limit text rest s t r more read comes,
+      single_line settings text rest s t r more read comes,
     )
 
 pub output_answers_replacements : OutputAnswersReplacements
-output_answers_replacements limit text rest s t r rs path new more read comes h =
-    let sound = (headers_give_sessions limit (lines text) rest s read).1 in (
+output_answers_replacements settings text rest s t r rs path new more asked read comes h =
+    let sound = (headers_give_sessions settings (lines text) rest s asked read).1 in (
       replacements_are_answered t r rs path new (keeps sound comes) h,
-      block_line limit text rest s t r rs more read comes,
+      block_line settings text rest s t r rs more read comes,
     )
 
 pub decisions_ignore_weights : DecisionsIgnoreWeights
@@ -96,10 +97,10 @@ started_within (Read t more) s rest h = go (is_over_limit t t.tree) refl h
         let same : t ≡ s = cc in
         subst (λ (s : Session). IsWithin s) same e
 
-header_within : (limit : ℕ) (rs rest : List Line) (s : Session) → header limit rs ≡ Read s rest → IsWithin s
+header_within : (settings : Settings) (rs rest : List Line) (s : Session) → header settings rs ≡ Read s rest → IsWithin s
 unfolding header
-header_within limit rs rest s h = started_within (header_lines limit rs) s rest h
+header_within settings rs rest s h = started_within (header_lines settings rs) s rest h
 
 pub sessions_may_begin : SessionsMayBegin
-sessions_may_begin limit rs rest s t j read comes =
-    ap (λ (over : Bool). require (not over) refusal.States >>= λ u. Ok t) (comes_within (header_within limit rs rest s read) comes)
+sessions_may_begin settings rs rest s t j read comes =
+    ap (λ (over : Bool). require (not over) refusal.States >>= λ u. Ok t) (comes_within (header_within settings rs rest s read) comes)

@@ -19,6 +19,7 @@ use Rattle.mm_job.specs.Header.{Session, header, is_over_limit}
 use Rattle.mm_job.specs.Items.{Items, Single, Block, items}
 use Rattle.mm_job.specs.Meaning.{answer_line}
 use Rattle.mm_job.specs.Output.{Ended, Ending, after_reply, answered, ending, lines_after_header, lines_of_items, output_lines, reply_line, written_lines}
+use Rattle.mm_job.specs.Settings.{Settings}
 use Rattle.mm_job.specs.declared.output_line.OutputLine.{OutputLine}
 use Rattle.mm_job.specs.declared.output_line.OutputLine.TheVariants.{Refuses, Says}
 use Rattle.mm_job_laws.specs.Agreement.{Agrees}
@@ -289,10 +290,10 @@ lines_come e (ComesTo.after_block {t = t} {rest = rest} {r = r} {rs = rs} c) =
     let reply = reply_line (block t r rs) in
     (h.0 ++ reply ∷ [], h.1 ∙ sym (append_assoc h.0 (reply ∷ []) (lines_of_items e (after_reply t (block t r rs)) rest)))
 
-pub single_line : (limit : ℕ) (text : List ℕ) (rest : List Line) (s t : Session) (r : Line) (more : Items) → header limit (lines text) ≡ Read s rest
-    → ComesTo s (items rest) t (Single r more) → HasLine (reply_line (single t r)) (output_lines text limit)
+pub single_line : (settings : Settings) (text : List ℕ) (rest : List Line) (s t : Session) (r : Line) (more : Items) → header settings (lines text) ≡ Read s rest
+    → ComesTo s (items rest) t (Single r more) → HasLine (reply_line (single t r)) (output_lines text settings)
 unfolding output_lines written_lines lines_of_items
-single_line limit text rest s t r more read comes =
+single_line settings text rest s t r more read comes =
     let e = ending Ended text in
     let h = lines_come e comes in (
       answered s ∷ h.0,
@@ -300,11 +301,11 @@ single_line limit text rest s t r more read comes =
       ap (lines_after_header e) read ∙ ap (λ ls. answered s ∷ ls) h.1,
     )
 
-pub block_line : (limit : ℕ) (text : List ℕ) (rest : List Line) (s t : Session) (r : Line) (rs : List Line) (more : Items)
-    → header limit (lines text) ≡ Read s rest → ComesTo s (items rest) t (Block r rs more)
-    → HasLine (reply_line (block t r rs)) (output_lines text limit)
+pub block_line : (settings : Settings) (text : List ℕ) (rest : List Line) (s t : Session) (r : Line) (rs : List Line) (more : Items)
+    → header settings (lines text) ≡ Read s rest → ComesTo s (items rest) t (Block r rs more)
+    → HasLine (reply_line (block t r rs)) (output_lines text settings)
 unfolding output_lines written_lines lines_of_items
-block_line limit text rest s t r rs more read comes =
+block_line settings text rest s t r rs more read comes =
     let e = ending Ended text in
     let h = lines_come e comes in (
       answered s ∷ h.0,
@@ -313,9 +314,9 @@ block_line limit text rest s t r rs more read comes =
     )
 
 pub output_answers_checks : OutputAnswersChecks
-output_answers_checks limit text rest s t r rs given more read comes check =
-    let sound = (headers_give_sessions limit (lines text) rest s read).1 in (
+output_answers_checks settings text rest s t r rs given more asked read comes check =
+    let sound = (headers_give_sessions settings (lines text) rest s asked read).1 in (
       reply_line (block t r rs),
       checks_are_answered t r rs given (keeps sound comes) check,
-      block_line limit text rest s t r rs more read comes,
+      block_line settings text rest s t r rs more read comes,
     )

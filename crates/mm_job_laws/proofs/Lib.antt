@@ -9,3 +9,4 @@ pub mod VerdictLemmas
 pub mod ItemLemmas
 pub mod NodeLemmas
 pub mod EditLawLemmas
+pub mod MinorLemmas

@@ -18,10 +18,11 @@ use Rattle.mm_formula_text.proofs.ReadsAllLemmas.{run_reads}
 use Rattle.mm_formula_text.proofs.ReadsOnlyLemmas.{run_derives}
 use Rattle.mm_formula_text.proofs.TextLemmas.{sorted}
 use Rattle.mm_header.proofs.FormulaLemmas.{derived_formula}
-use Rattle.mm_header.specs.Queries.{first_of, formula_of, least_query, most_formula, query_for, query_line, query_of, scope_refusal, set_variable_of, spelled_query}
-use Rattle.mm_header.specs.Queries.Question.{Spelled}
+use Rattle.mm_header.specs.Queries.{first_of, formula_of, least_query, minor_line, minor_query, most_formula, query_for, query_line, query_of, scope_refusal, set_variable_of, spelled_query}
+use Rattle.mm_header.specs.Queries.Question.{Spelled, Minor}
 use Rattle.mm_job_laws.specs.AnswerLaws.{QueryLinesGiveWhatTheySpell, Seeks, Spells, formula_text}
 use Rattle.mm_job_text.specs.Arguments.{args, begins, first_is, too_long}
+use Rattle.mm_job_text.specs.Checks.{◌>>◌}
 use Rattle.mm_job_text.specs.Readers.{refused_or, whole}
 use Rattle.mm_job_text.specs.declared.refusal.Limit.TheVariants as limit
 use Rattle.mm_job_text.specs.declared.refusal.Refusal.{Refusal}
@@ -130,6 +131,17 @@ line_spells r = go (begins (codes "decide") r) (begins (codes "least") r) refl r
     go true least p q = text_spells r None refl p
     go false true p q = least_spells r q
     go false false p q = tt
+
+-- the word `minor`, where it gives a query
+pub minor_asks : (given : Query) (r : Line) (query : Query) → whole (query_line (Minor given)) r ≡ Ok query → (whole minor_line r ≡ Ok tt) × (query ≡ given)
+unfolding minor_query
+minor_asks given r query h = go (too_long r.text r.number) (minor_line r) h
+  where
+    go : (long : Option Refusal) (word : Result (Unit {0}) Refusal) → refused_or long (word >> Ok given) ≡ Ok query
+        → (refused_or long word ≡ Ok tt) × (query ≡ given)
+    go (Some e) word h = let x : Err e ≡ Ok query = h in absurd (cc)
+    go None (Err e) h = let x : Err e ≡ Ok query = h in absurd (cc)
+    go None (Ok u) h = let x : Ok given ≡ Ok query = h in (refl, cc)
 
 pub whole_spells : (r : Line) (query : Query) → whole (query_line Spelled) r ≡ Ok query → Spells r query
 whole_spells r query h = go (too_long r.text r.number) (spelled_query r) (line_spells r) h

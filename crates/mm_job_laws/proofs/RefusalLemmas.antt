@@ -5,11 +5,11 @@ use Rattle.std.proofs.Common.{sym, ap, subst, ◌∙◌}
 use Rattle.std.specs.declared.result.Result.{Result}
 use Rattle.mm_header.specs.Header.{Parts, parts, verdict_refusal}
 use Rattle.mm_header.specs.Queries.{query_line}
-use Rattle.mm_header.specs.Queries.Question.{Spelled}
 use Rattle.mm_header.specs.Rules.{job_rules}
-use Rattle.mm_job.specs.Header.{Session, query_part, header, header_lines, is_over_limit, started}
+use Rattle.mm_job.specs.Header.{Session, query_part, header, header_lines, is_over_limit, session_part, started}
 use Rattle.mm_job.specs.Meaning.{answer_line}
 use Rattle.mm_job.specs.Output.{Ending, More, Ended, Over, answered, ending, lines_after_header, written_lines, output_lines}
+use Rattle.mm_job.specs.Settings.{Settings}
 use Rattle.mm_job.specs.declared.output_line.OutputLine.{OutputLine}
 use Rattle.mm_job.specs.declared.output_line.OutputLine.TheVariants.{Refuses, Says}
 use Rattle.mm_lines.specs.Lines.{lines}
@@ -33,20 +33,20 @@ use Rattle.mm_job_laws.proofs.SoundLemmas.{lines_are_sound}
 abbrev pub after : Session → List Line → Verdict → Reading Session
 after s rest v = and_then (and_then (now (verdict_refusal v) rest) (λ u. now (Ok s))) (λ s. now (started s))
 
-after_query : (limit : ℕ) (p : Parts) (r : Line) (rest : List Line) (query : Query) → whole (query_line Spelled) r ≡ Ok query →
-    and_then (query_part limit p (r ∷ rest)) (λ s. now (started s)) ≡ after (session_of limit p query) rest (compared p.0.f (given_of p) p.1)
-unfolding query_part
-after_query limit p r rest query e =
+after_query : (settings : Settings) (p : Parts) (r : Line) (rest : List Line) (query : Query) → whole (query_line settings.question) r ≡ Ok query →
+    and_then (query_part settings p (r ∷ rest)) (λ s. now (started s)) ≡ after (session_of settings.limit p query) rest (compared p.0.f (given_of p) p.1)
+unfolding query_part session_part
+after_query settings p r rest query e =
     let v = compared p.0.f (given_of p) p.1 in
     ap (λ (line : Result Query Refusal). and_then
-    (and_then (now line rest) (λ query rest. and_then (now (verdict_refusal v) rest) (λ u. now (Ok (session_of limit p query))))) (λ s. now (started s))) e
+    (and_then (now line rest) (λ query rest. and_then (now (verdict_refusal v) rest) (λ u. now (Ok (session_of settings.limit p query))))) (λ s. now (started s))) e
 
-pub header_after : (limit : ℕ) (rs : List Line) (p : Parts) (r : Line) (rest : List Line) (query : Query) → parts job_rules rs ≡ Read p (r ∷ rest) →
-    whole (query_line Spelled) r ≡ Ok query → header limit rs ≡ after (session_of limit p query) rest (compared p.0.f (given_of p) p.1)
+pub header_after : (settings : Settings) (rs : List Line) (p : Parts) (r : Line) (rest : List Line) (query : Query) → parts job_rules rs ≡ Read p (r ∷ rest) →
+    whole (query_line settings.question) r ≡ Ok query → header settings rs ≡ after (session_of settings.limit p query) rest (compared p.0.f (given_of p) p.1)
 unfolding header header_lines
-header_after limit rs p r rest query e q =
-    ap (λ (reading : Reading Parts). and_then (and_then reading (query_part limit)) (λ s. now (started s))) e
-    ∙ after_query limit p r rest query q
+header_after settings rs p r rest query e q =
+    ap (λ (reading : Reading Parts). and_then (and_then reading (query_part settings)) (λ s. now (started s))) e
+    ∙ after_query settings p r rest query q
 
 -- ---- sizes
 
@@ -109,11 +109,11 @@ decided limit p query rest (verdict.Present j) h = record {
 }
 
 pub rows_are_refused_exactly : RowsAreRefusedExactly
-rows_are_refused_exactly limit rs rest r p query e q =
+rows_are_refused_exactly settings rs rest r p query e q =
     let s = lines_are_sound job_rules rs (r ∷ rest) p e in
     let same = same_exactly_where_they_agree p.0.f (given_of p) p.1 s.tree.valid_shape (different_elements p.1 s.tree.different) s.different s.vectors in
-    subst (λ (reading : Reading Session). IsDecidedByAgreement limit p query rest reading) (sym (header_after limit rs p r rest query e q))
-    (decided limit p query rest (compared p.0.f (given_of p) p.1) same)
+    subst (λ (reading : Reading Session). IsDecidedByAgreement settings.limit p query rest reading) (sym (header_after settings rs p r rest query e q))
+    (decided settings.limit p query rest (compared p.0.f (given_of p) p.1) same)
 
 alone_where_refused : (e : Ending) (reading : Reading Session) → IsRowRefusalAlone (lines_after_header e reading) ↔ IsRefusedForRows reading
 alone_where_refused e (Read s rest) = ((λ t. t), (λ t. t))
@@ -124,9 +124,9 @@ alone_where_refused Over Short = ((λ t. t), (λ t. t))
 
 pub output_refuses_rows_exactly : OutputRefusesRowsExactly
 unfolding output_lines written_lines
-output_refuses_rows_exactly limit text rest r p query e q =
-    let d = rows_are_refused_exactly limit (lines text) rest r p query e q in
-    let a = alone_where_refused (ending Ended text) (header limit (lines text)) in
+output_refuses_rows_exactly settings text rest r p query e q =
+    let d = rows_are_refused_exactly settings (lines text) rest r p query e q in
+    let a = alone_where_refused (ending Ended text) (header settings (lines text)) in
     ((λ t. d.refused.0 (a.0 t)), (λ n. a.1 (d.refused.1 n)))
 
 -- a line that is an answer is no refusal
@@ -136,21 +136,21 @@ answer_no_refusal s more why h =
 
 pub output_refuses_size_exactly : OutputRefusesSizeExactly
 unfolding output_lines written_lines
-output_refuses_size_exactly limit text rest r p query e q agree = (there, back)
+output_refuses_size_exactly settings text rest r p query e q agree = (there, back)
   where
-    d : IsDecidedByAgreement limit p query rest (header limit (lines text))
-    d = rows_are_refused_exactly limit (lines text) rest r p query e q
+    d : IsDecidedByAgreement settings.limit p query rest (header settings (lines text))
+    d = rows_are_refused_exactly settings (lines text) rest r p query e q
 
     s : Session
-    s = session_of limit p query
+    s = session_of settings.limit p query
 
-    back : IsOver p.0.f query (shape p.1) limit → lines_after_header (ending Ended text) (header limit (lines text)) ≡ Refuses refusal.States ∷ []
+    back : IsOver p.0.f query (shape p.1) settings.limit → lines_after_header (ending Ended text) (header settings (lines text)) ≡ Refuses refusal.States ∷ []
     back large = ap (lines_after_header (ending Ended text)) (d.over agree large)
 
-    there : lines_after_header (ending Ended text) (header limit (lines text)) ≡ Refuses refusal.States ∷ [] → IsOver p.0.f query (shape p.1) limit
+    there : lines_after_header (ending Ended text) (header settings (lines text)) ≡ Refuses refusal.States ∷ [] → IsOver p.0.f query (shape p.1) settings.limit
     there h = go (is_over_limit s p.1) refl
       where
-        go : (b : Bool) → is_over_limit s p.1 ≡ b → IsOver p.0.f query (shape p.1) limit
+        go : (b : Bool) → is_over_limit s p.1 ≡ b → IsOver p.0.f query (shape p.1) settings.limit
         go true over = is_over s p.1 over
         go false small =
             absurd (answer_no_refusal s _ refusal.States

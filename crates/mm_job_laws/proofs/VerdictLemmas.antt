@@ -208,10 +208,10 @@ refusal_for e s rest (verdict.Present j) = refl
 
 pub output_names_the_difference : OutputNamesTheDifference
 unfolding output_lines written_lines
-output_names_the_difference limit text rest r p query e q v meant =
+output_names_the_difference settings text rest r p query e q v meant =
     let sound = lines_are_sound job_rules (lines text) (r ∷ rest) p e in
     let is =
     (verdicts_are_meant p.0.f (given_of p) p.1 sound.tree.valid_shape (different_elements p.1 sound.tree.different) sound.different sound.vectors v).1 meant in
     subst (λ (reading : Reading Session). IsRefusalFor v (lines_after_header (ending Ended text) reading))
-    (sym (header_after limit (lines text) p r rest query e q ∙ ap (λ (v : Verdict). after (session_of limit p query) rest v) is))
-    (refusal_for (ending Ended text) (session_of limit p query) rest v)
+    (sym (header_after settings (lines text) p r rest query e q ∙ ap (λ (v : Verdict). after (session_of settings.limit p query) rest v) is))
+    (refusal_for (ending Ended text) (session_of settings.limit p query) rest v)

@@ -9,14 +9,15 @@ use Rattle.mm_formula.specs.Syntax.{Syntax}
 use Rattle.mm_formula.specs.Variables.{is_var}
 use Rattle.mm_formula_text.specs.Grammar.{IsTextOf}
 use Rattle.mm_header.specs.Header.{Parts, parts}
-use Rattle.mm_header.specs.Queries.{first_of, most_formula, query_for, query_line}
-use Rattle.mm_header.specs.Queries.Question.{Spelled}
+use Rattle.mm_header.specs.Queries.{Question, first_of, minor_line, most_formula, query_for, query_line}
+use Rattle.mm_header.specs.Queries.Question.{Spelled, Minor}
 use Rattle.mm_header.specs.Rules.{job_rules}
 use Rattle.mm_job.specs.Edits.{Reply, block, check_fields, check_names, light_fields, replace_fields, single}
 use Rattle.mm_job.specs.Header.{Session, header}
 use Rattle.mm_job.specs.Items.{Items, Single, Block, items}
 use Rattle.mm_job.specs.Meaning.{answer_line, least_line}
 use Rattle.mm_job.specs.Output.{after_reply, output_lines, reply_line}
+use Rattle.mm_job.specs.Settings.{Settings}
 use Rattle.mm_job.specs.declared.output_line.OutputLine.{OutputLine}
 use Rattle.mm_job.specs.declared.output_line.OutputLine.TheVariants.{Says, Refuses}
 use Rattle.mm_job_laws.specs.Agreement.{AreAmong, Agrees}
@@ -109,6 +110,16 @@ pub record IsOfScoped (query : Query) : Type 0 where
   pub scoped : IsScoped formula sought
   pub asks : query ≡ query_for sought formula
 
+-- A line asks a query: it spells it, or it is the word `minor`, which stands for a query that is given.
+abbrev pub Asks : Question → Line → Query → Type 0
+Asks Spelled r query = Spells r query
+Asks (Minor given) r query = (whole minor_line r ≡ Ok tt) × (query ≡ given)
+
+-- A query that is given is that of a scoped formula.
+abbrev pub IsAsked : Question → Type 0
+IsAsked Spelled = Unit {0}
+IsAsked (Minor given) = IsOfScoped given
+
 -- A session is sound where its operators and its tree are valid over its field, and its query is that of a scoped formula.
 pub record IsSound (s : Session) : Type 0 where
   pub ops : AreValidOps s.f s.ops
@@ -116,19 +127,21 @@ pub record IsSound (s : Session) : Type 0 where
   pub query : IsOfScoped s.query
 
 -- The lines of a header, up to the others, give a session: those before the query are not faulty and give its field, its operators
--- and its tree, the next one spells its query, and the given rows agree with the tree.
-pub record Gives (limit : ℕ) (rs rest : List Line) (s : Session) : Type 0 where
+-- and its tree, the next one asks its query, and the given rows agree with the tree.
+pub record Gives (settings : Settings) (rs rest : List Line) (s : Session) : Type 0 where
   pub p : Parts
   pub r : Line
   pub read : parts job_rules rs ≡ Read p (r ∷ rest)
-  pub spelled : Spells r s.query
-  pub session : s ≡ session_of limit p s.query
+  pub asked : Asks settings.question r s.query
+  pub session : s ≡ session_of settings.limit p s.query
   pub sound : AreSound p
   pub agreeing : Agrees p.0.f (given_of p) p.1
 
 -- Where a header is read, its lines give the session, which is sound.
 abbrev pub HeadersGiveSessions : Type 0
-HeadersGiveSessions = (limit : ℕ) (rs rest : List Line) (s : Session) → header limit rs ≡ Read s rest → Gives limit rs rest s × IsSound s
+HeadersGiveSessions =
+    (settings : Settings) (rs rest : List Line) (s : Session) → IsAsked settings.question → header settings rs ≡ Read s rest
+    → Gives settings rs rest s × IsSound s
 
 -- some lines begin with the answer to the query of a session
 pub record BeginsWithAnswer (s : Session) (output : List OutputLine) : Type 0 where
@@ -140,8 +153,8 @@ pub record BeginsWithAnswer (s : Session) (output : List OutputLine) : Type 0 wh
 -- Where the header of a text is read, the first line of its output answers the query.
 abbrev pub OutputBeginsWithAnswer : Type 0
 OutputBeginsWithAnswer =
-    (limit : ℕ) (text : List ℕ) (rest : List Line) (s : Session) → header limit (lines text) ≡ Read s rest
-    → BeginsWithAnswer s (output_lines text limit)
+    (settings : Settings) (text : List ℕ) (rest : List Line) (s : Session) → IsAsked settings.question → header settings (lines text) ≡ Read s rest
+    → BeginsWithAnswer s (output_lines text settings)
 
 -- ---- how given rows differ from a tree
 
@@ -199,9 +212,9 @@ IsRefusalFor (verdict.Present j) output = output ≡ Refuses (refusal.Present j)
 -- Where no line of a job up to its query is faulty and its rows do not agree with its tree, its output names their first difference.
 abbrev pub OutputNamesTheDifference : Type 0
 OutputNamesTheDifference =
-    (limit : ℕ) (text : List ℕ) (rest : List Line) (r : Line) (p : Parts) (query : Query) → parts job_rules (lines text) ≡ Read p (r ∷ rest)
-    → whole (query_line Spelled) r ≡ Ok query
-    → (v : Verdict) → IsMeant p.0.f (given_of p) p.1 v → IsRefusalFor v (output_lines text limit)
+    (settings : Settings) (text : List ℕ) (rest : List Line) (r : Line) (p : Parts) (query : Query)
+    → parts job_rules (lines text) ≡ Read p (r ∷ rest) → whole (query_line settings.question) r ≡ Ok query
+    → (v : Verdict) → IsMeant p.0.f (given_of p) p.1 v → IsRefusalFor v (output_lines text settings)
 
 -- ---- items
 
@@ -285,6 +298,6 @@ HasLine line output = (before after : List OutputLine) × (output ≡ before ++ 
 -- Where the items of a text come to a check, its output has the line of that check.
 abbrev pub OutputAnswersChecks : Type 0
 OutputAnswersChecks =
-    (limit : ℕ) (text : List ℕ) (rest : List Line) (s t : Session) (r : Line) (rs : List Line) (given : Named) (more : Items)
-    → header limit (lines text) ≡ Read s rest → ComesTo s (items rest) t (Block r rs more) → IsCheck t r rs given
-    → (line : OutputLine) × IsComparison t given line × HasLine line (output_lines text limit)
+    (settings : Settings) (text : List ℕ) (rest : List Line) (s t : Session) (r : Line) (rs : List Line) (given : Named) (more : Items)
+    → IsAsked settings.question → header settings (lines text) ≡ Read s rest → ComesTo s (items rest) t (Block r rs more) → IsCheck t r rs given
+    → (line : OutputLine) × IsComparison t given line × HasLine line (output_lines text settings)

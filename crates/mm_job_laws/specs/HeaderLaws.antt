@@ -6,11 +6,11 @@ use Rattle.mm_field.specs.declared.Field.{Field}
 use Rattle.mm_field.specs.Vectors.{AreVectors}
 use Rattle.mm_header.specs.Header.{Parts, parts}
 use Rattle.mm_header.specs.Queries.{query_line}
-use Rattle.mm_header.specs.Queries.Question.{Spelled}
 use Rattle.mm_header.specs.Rules.{job_rules}
 use Rattle.mm_header.specs.declared.rules.HeaderRules.{HeaderRules}
 use Rattle.mm_job.specs.Header.{Session, header}
 use Rattle.mm_job.specs.Output.{output_lines}
+use Rattle.mm_job.specs.Settings.{Settings}
 use Rattle.mm_job.specs.declared.output_line.OutputLine.{OutputLine}
 use Rattle.mm_job.specs.declared.output_line.OutputLine.TheVariants.{Refuses}
 use Rattle.mm_job_laws.specs.Agreement.{Agrees}
@@ -73,8 +73,8 @@ pub record IsDecidedByAgreement (limit : ℕ) (p : Parts) (query : Query) (rest 
 -- Where no line of a header up to its query is faulty, agreement and then the size of the tree decide what is made of it.
 abbrev pub RowsAreRefusedExactly : Type 0
 RowsAreRefusedExactly =
-    (limit : ℕ) (rs rest : List Line) (r : Line) (p : Parts) (query : Query) → parts job_rules rs ≡ Read p (r ∷ rest)
-    → whole (query_line Spelled) r ≡ Ok query → IsDecidedByAgreement limit p query rest (header limit rs)
+    (settings : Settings) (rs rest : List Line) (r : Line) (p : Parts) (query : Query) → parts job_rules rs ≡ Read p (r ∷ rest)
+    → whole (query_line settings.question) r ≡ Ok query → IsDecidedByAgreement settings.limit p query rest (header settings rs)
 
 -- Nothing is written but one line, which refuses the rows.
 abbrev pub IsRowRefusalAlone : List OutputLine → Type 0
@@ -85,14 +85,14 @@ IsRowRefusalAlone output_line = ⊥
 -- with the tree.
 abbrev pub OutputRefusesRowsExactly : Type 0
 OutputRefusesRowsExactly =
-    (limit : ℕ) (text : List ℕ) (rest : List Line) (r : Line) (p : Parts) (query : Query) → parts job_rules (lines text) ≡ Read p (r ∷ rest)
-    → whole (query_line Spelled) r ≡ Ok query
-    → IsRowRefusalAlone (output_lines text limit) ↔ (Agrees p.0.f (given_of p) p.1 → ⊥)
+    (settings : Settings) (text : List ℕ) (rest : List Line) (r : Line) (p : Parts) (query : Query) → parts job_rules (lines text) ≡ Read p (r ∷ rest)
+    → whole (query_line settings.question) r ≡ Ok query
+    → IsRowRefusalAlone (output_lines text settings) ↔ (Agrees p.0.f (given_of p) p.1 → ⊥)
 
 -- Where no line of a job up to its query is faulty and its rows agree with its tree, its output is the one line `states` exactly where
 -- the tree is over the limit.
 abbrev pub OutputRefusesSizeExactly : Type 0
 OutputRefusesSizeExactly =
-    (limit : ℕ) (text : List ℕ) (rest : List Line) (r : Line) (p : Parts) (query : Query) → parts job_rules (lines text) ≡ Read p (r ∷ rest)
-    → whole (query_line Spelled) r ≡ Ok query → Agrees p.0.f (given_of p) p.1
-    → (output_lines text limit ≡ Refuses refusal.States ∷ []) ↔ IsOver p.0.f query (shape p.1) limit
+    (settings : Settings) (text : List ℕ) (rest : List Line) (r : Line) (p : Parts) (query : Query) → parts job_rules (lines text) ≡ Read p (r ∷ rest)
+    → whole (query_line settings.question) r ≡ Ok query → Agrees p.0.f (given_of p) p.1
+    → (output_lines text settings ≡ Refuses refusal.States ∷ []) ↔ IsOver p.0.f query (shape p.1) settings.limit

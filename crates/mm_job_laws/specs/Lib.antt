@@ -3,3 +3,4 @@ pub mod HeaderLaws
 pub mod AnswerLaws
 pub mod TreeLaws
 pub mod EditLaws
+pub mod MinorLaws

@@ -3,6 +3,7 @@ ghost use Rattle.mm_job_laws.specs.AnswerLaws.{AnswerLinesAreAnswers, ChecksAreA
 ghost use Rattle.mm_job_laws.specs.AnswerLaws.{OutputAnswersChecks, OutputBeginsWithAnswer, OutputNamesTheDifference, VerdictsAreMeant};
 ghost use Rattle.mm_job_laws.specs.AnswerLaws.{RefusalsChangeNothing, ReplacementsAreAnswered, WeightsAreAnswered};
 ghost use Rattle.mm_job_laws.specs.EditLaws.{DecisionsIgnoreWeights, OutputAnswersReplacements, OutputAnswersWeights, SessionsMayBegin};
+ghost use Rattle.mm_job_laws.specs.MinorLaws.{MinorsAreDecided, MinorsAreTold};
 
 /// A query line gives exactly the query that it spells: the grammar derives its formula from the text of the line, and the formula
 /// is scoped and within its limits.
@@ -81,7 +82,19 @@ pub fn sessions_may_begin_with_the_present_tree()
     ensures { SessionsMayBegin }
 {}
 
+/// Where the word `minor` asks a formula and the header is read, the output says whether the formula holds on the tree, `true` or
+/// `false`, and so does the line of each edit that is done for the tree after it.
+pub fn minors_are_decided()
+    ensures { MinorsAreDecided }
+{}
+
 /// Whether a formula holds does not depend on weights, so that another weight leaves the answer as it is.
 pub fn decisions_ignore_weights()
     ensures { DecisionsIgnoreWeights }
+{}
+
+/// Where the word `minor` asks the minor formula of a matrix, the first line and the line of each edit that is done say whether the matroid of
+/// the present tree has that of the matrix as a minor.
+pub fn minors_are_told()
+    ensures { MinorsAreTold }
 {}

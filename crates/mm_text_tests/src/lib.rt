@@ -14,4 +14,6 @@ mod job_text;
 #[cfg(test)]
 mod lines;
 #[cfg(test)]
+mod minors;
+#[cfg(test)]
 mod sample;

@@ -199,6 +199,57 @@ fn headers_give_those_of_their_duals(rt: HostRuntime) -> Result<(), Fail> {
     Ok(())
 }
 
+/// The words, the text of a job that asks for a minor, its answers, and the status.
+const MINORS: [(&str, &str, &str, u8); 6] = [
+    // a circuit of three elements has a loop as a minor, and a basis has none
+    (
+        "minor 2 0",
+        "mso 1\nfield 2\nelements a b c\nrow 101\nrow 011\nop j 1 1 2 0 10 01\nop k 2 1 0 2 10/01 11\ntree\nelem a 1 5\nelem b 1 5\njoin j\nelem c 1 5\njoin k\nend\nminor\nreplace c 0\nvoid c 1\nend\n",
+        "true\nfalse\n",
+        0,
+    ),
+    // two parallel elements
+    (
+        "minor 2 11",
+        "mso 1\nfield 2\nelements a b c\nrow 101\nrow 011\nop j 1 1 2 0 10 01\nop k 2 1 0 2 10/01 11\ntree\nelem a 1 5\nelem b 1 5\njoin j\nelem c 1 5\njoin k\nend\nminor\n",
+        "true\n",
+        0,
+    ),
+    // four points on a line, over another field than that of the tree
+    (
+        "minor 03 1011/0112",
+        "mso 1\nfield 2\nelements a b c\nrow 101\nrow 011\nop j 1 1 2 0 10 01\nop k 2 1 0 2 10/01 11\ntree\nelem a 1 5\nelem b 1 5\njoin j\nelem c 1 5\njoin k\nend\nminor\n",
+        "false\n",
+        0,
+    ),
+    // a query of another kind
+    (
+        "minor 2 11",
+        "mso 1\nfield 2\nelements a b c\nrow 101\nrow 011\nop j 1 1 2 0 10 01\nop k 2 1 0 2 10/01 11\ntree\nelem a 1 5\nelem b 1 5\njoin j\nelem c 1 5\njoin k\nend\ndecide ind(*)\n",
+        "refused syntax 15\n",
+        1,
+    ),
+    (
+        "run",
+        "mso 1\nfield 2\nelements a b c\nrow 101\nrow 011\nop j 1 1 2 0 10 01\nop k 2 1 0 2 10/01 11\ntree\nelem a 1 5\nelem b 1 5\njoin j\nelem c 1 5\njoin k\nend\nminor\n",
+        "refused syntax 15\n",
+        1,
+    ),
+    ("minor 02 10/01", "", "refused unfinished\n", 1),
+];
+
+#[test]
+fn jobs_that_ask_for_a_minor_are_answered(rt: HostRuntime) -> Result<(), Fail> {
+    let alloc = rt.alloc();
+    for (words, text, output, status) in MINORS {
+        for piece in [4096usize, 1, 7] {
+            let same = gives(alloc, words, text.as_bytes(), piece.max(1), output, status)?;
+            assert!(rt; same, "{words} in pieces of {piece}");
+        }
+    }
+    Ok(())
+}
+
 #[test]
 fn a_built_header_is_that_of_a_job(rt: HostRuntime) -> Result<(), Fail> {
     let alloc = rt.alloc();

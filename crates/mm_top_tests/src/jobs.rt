@@ -181,7 +181,7 @@ fn cut_texts_give_their_answers(rt: HostRuntime) -> Result<(), Fail> {
 }
 
 /// Words, and whether they are those of a command that is not built yet; else they ask for nothing.
-const WORDS: [(&str, bool); 16] = [
+const WORDS: [(&str, bool); 15] = [
     ("", false),
     ("run --limit 0", false),
     ("run --limit 4194305", false),
@@ -197,7 +197,6 @@ const WORDS: [(&str, bool); 16] = [
     ("dual x", false),
     ("prove", true),
     ("verify", true),
-    ("minor 02 10/01", true),
 ];
 
 #[test]

@@ -1,5 +1,5 @@
 -- Between code and definitions: what an editor has replied to an edit and to a query line, and the steps that this took.
-use Rattle.std.specs.Prelude.{◌≡◌, ◌≤◌, ℕ, ◌+◌, true, false, List, ◌∷◌, [], Option, Ok, Err}
+use Rattle.std.specs.Prelude.{◌≡◌, ◌≤◌, ℕ, ◌+◌, true, false, List, ◌∷◌, [], Option, Ok, Err, IfOk}
 use Rattle.std.specs.Result.{result_ok}
 use Rattle.std.specs.declared.result.Result.{Result}
 use Rattle.std.specs.Fmt.{signed_decimal}
@@ -14,12 +14,14 @@ use Rattle.mm_job.specs.Items.{items}
 use Rattle.mm_job.specs.Output.{after_reply, reply_line}
 use Rattle.mm_job.specs.State.Sessions.{IsEditor, kept_of, session_of}
 use Rattle.mm_job.specs.State.Spending.{Spends, SpendsAtMost}
-use Rattle.mm_job.specs.Header.{Session, is_over_limit}
-use Rattle.mm_job.specs.Work.{edit_work, items_work, kept_after, types_in}
+use Rattle.mm_job.specs.Header.{Session, is_over_limit, started}
+use Rattle.mm_job.specs.Work.{edit_work, items_work, kept_after, types_in, work_after}
 use Rattle.mm_job.specs.State.Blocks.{block_from, edit_from}
 use Rattle.mm_job.specs.declared.block.Block.{Block}
 use Rattle.mm_job.specs.declared.editor.Editor.{Editor}
 use Rattle.mm_job.specs.declared.output_line.OutputLine.{OutputLine}
+use Rattle.mm_job_text.specs.Becoming.{Goes}
+use Rattle.mm_job_text.specs.Readers.{Reader, Read, and_then, now}
 use Rattle.mm_job_text.specs.declared.refusal.Limit.TheVariants as limit
 use Rattle.mm_job_text.specs.declared.refusal.Refusal.{Refusal}
 use Rattle.mm_job_text.specs.declared.refusal.Refusal.TheVariants as refusal
@@ -82,8 +84,14 @@ Begins s (Ok e) = Begun s e
 Begins s (Err (Refused why)) = (why ≡ refusal.States) × (is_over_limit s s.tree ≡ true)
 Begins s (Err NoMemory) = Unit {0}
 
--- The steps of a query line are within the nodes of the tree, and the work of the lines after it is that of the editor's items.
-abbrev pub SpendsStart : (List Line → ℕ) → Line → Result Editor Stop → (steps steps_new : ℕ) → Type 0
-SpendsStart before line (Ok e) steps steps_new = Spends before (λ rs. items_work (kept_of e) (session_of e) (items rs)) (line ∷ []) [] steps steps_new
-SpendsStart before line (Err (Refused why)) steps steps_new = Spends before (λ rs. 0) (line ∷ []) [] steps steps_new
-SpendsStart before line (Err NoMemory) steps steps_new = SpendsAtMost before (line ∷ []) steps steps_new
+-- The steps of some lines are within the nodes of the tree, and the work of the lines after them is that of the editor's items.
+abbrev pub SpendsStart : (List Line → ℕ) → List Line → Result Editor Stop → (steps steps_new : ℕ) → Type 0
+SpendsStart before lines (Ok e) steps steps_new = Spends before (λ rs. items_work (kept_of e) (session_of e) (items rs)) lines [] steps steps_new
+SpendsStart before lines (Err (Refused why)) steps steps_new = Spends before (λ rs. 0) lines [] steps steps_new
+SpendsStart before lines (Err NoMemory) steps steps_new = SpendsAtMost before lines steps steps_new
+
+-- Some lines, as they are read, begin a session that is not over its limit, or are refused, or memory ran out.
+pub record Starts (reader : Reader Session) (lines : List Line) (result : Result Editor Stop) (steps steps_new : ℕ) : Type 0 where
+  pub editor : IfOk result IsEditor
+  pub goes : (rs : List Line) → Goes result (and_then (reader (lines ++ rs)) (λ s. now (started s))) (λ e. Read (session_of e) rs)
+  pub spends : SpendsStart (λ rs. work_after (reader rs)) lines result steps steps_new

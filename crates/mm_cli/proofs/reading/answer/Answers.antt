@@ -8,27 +8,27 @@ pub returns-in-Ok-clause-run : goal.returns-in-Ok-clause-run
 returns-in-Ok-clause-run g c =
     let l = g.S.Source.left in
     let h = g.K.Sink.held in
-    finished c.args.job.now.limit (l c.args.source.now) (l c.read_pieces.new.source) (h c.args.sink.now) (h c.read_pieces.new.sink) (h c.finish.new.out)
+    finished c.args.job.now.settings (l c.args.source.now) (l c.read_pieces.new.source) (h c.args.sink.now) (h c.read_pieces.new.sink) (h c.finish.new.out)
     c.read_pieces.new.job c.in-Ok.status c.in_default.ensures.all.1 c.in-Ok.ensures.status c.in-Ok.ensures.writes.wrote
 
 pub returns-in-Err-clause-run : goal.returns-in-Err-clause-run
 returns-in-Err-clause-run g c =
     let l = g.S.Source.left in
     let h = g.K.Sink.held in
-    subst (λ s. Ran c.args.job.now.limit (l c.args.source.now) (l c.read_pieces.new.source) (h c.args.sink.now) (h c.finish.new.out) s) (sym c.cut.ensures)
-    (unfinished c.args.job.now.limit (l c.args.source.now) (l c.read_pieces.new.source) (h c.args.sink.now) (h c.read_pieces.new.sink) (h c.finish.new.out)
+    subst (λ s. Ran c.args.job.now.settings (l c.args.source.now) (l c.read_pieces.new.source) (h c.args.sink.now) (h c.finish.new.out) s) (sym c.cut.ensures)
+    (unfinished c.args.job.now.settings (l c.args.source.now) (l c.read_pieces.new.source) (h c.args.sink.now) (h c.read_pieces.new.sink) (h c.finish.new.out)
     c.read_pieces.new.job c.in-Err.fault c.in_default.ensures.all.1 c.in-Err.ensures.writes.front)
 
 pub returns-in-Ok-clause-steps : goal.returns-in-Ok-clause-steps
 returns-in-Ok-clause-steps g c =
     let l = g.S.Source.left in
     let h = g.K.Sink.held in
-    spent_on_end c.args.job.now.limit (l c.args.source.now) (l c.read_pieces.new.source) (h c.args.sink.now) (h c.read_pieces.new.sink)
+    spent_on_end c.args.job.now.settings (l c.args.source.now) (l c.read_pieces.new.source) (h c.args.sink.now) (h c.read_pieces.new.sink)
     c.read_pieces.new.job c.args.steps.now c.read_pieces.new.steps c.finish.new.steps c.in_default.ensures.all.1 c.in_default.ensures.steps_so_far c.finish.ensures.steps
 
 pub returns-in-Err-clause-steps : goal.returns-in-Err-clause-steps
 returns-in-Err-clause-steps g c =
     let l = g.S.Source.left in
     let h = g.K.Sink.held in
-    spent_on_end c.args.job.now.limit (l c.args.source.now) (l c.read_pieces.new.source) (h c.args.sink.now) (h c.read_pieces.new.sink)
+    spent_on_end c.args.job.now.settings (l c.args.source.now) (l c.read_pieces.new.source) (h c.args.sink.now) (h c.read_pieces.new.sink)
     c.read_pieces.new.job c.args.steps.now c.read_pieces.new.steps c.finish.new.steps c.in_default.ensures.all.1 c.in_default.ensures.steps_so_far c.finish.ensures.steps

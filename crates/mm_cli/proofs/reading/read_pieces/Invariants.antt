@@ -11,11 +11,11 @@ abbrev pub invariant-pieces : goal.invariant-pieces
 invariant-pieces g l = record {
   far : IsFar g.start (g.S.Source.left l.source) (g.K.Sink.held l.sink) l.job;
   count : length l.job.text ≡ l.taken;
-  limit : l.job.limit ≡ l.initial.job.limit;
+  settings : l.job.settings ≡ l.initial.job.settings;
   live : l.job.live ≡ true;
   source_later : g.S.Source.faults l.initial.source ≤ g.S.Source.faults l.source;
   sink_later : g.K.Sink.faults l.initial.sink ≤ g.K.Sink.faults l.sink;
-  steps : l.steps ≤ l.initial.steps + settled_work l.job.text l.initial.job.limit;
+  steps : l.steps ≤ l.initial.steps + settled_work l.job.text l.initial.job.settings;
 }
 
 abbrev pub decreases-pieces : goal.decreases-pieces

@@ -16,18 +16,18 @@ returns-in_err-take_piece-clause-writes g c = record {
 
 pub returns-clause-status : goal.returns-clause-status
 returns-clause-status g c =
-    last_status c.args.limit (c.args.framer.now.bytes ++ c.args.piece.now) c.take_piece.new.state c.end_state.result c.in_ok-take_piece.ensures.stands c.end_state.ensures.status
+    last_status c.args.settings.now (c.args.framer.now.bytes ++ c.args.piece.now) c.take_piece.new.state c.end_state.result c.in_ok-take_piece.ensures.stands c.end_state.ensures.status
 
 pub returns-clause-writes : goal.returns-clause-writes
 returns-clause-writes g c =
     let held = g.K.Sink.held in
     let faults = g.K.Sink.faults in
     let text = c.args.framer.now.bytes ++ c.args.piece.now in
-    let before = written_at More c.args.limit c.args.framer.now.bytes in
+    let before = written_at More c.args.settings.now c.args.framer.now.bytes in
     record {
-      wrote = last_grew c.args.limit text c.take_piece.new.state c.end_state.result (held c.args.out.now) (held c.take_piece.new.out) (held c.end_state.new.out)
+      wrote = last_grew c.args.settings.now text c.take_piece.new.state c.end_state.result (held c.args.out.now) (held c.take_piece.new.out) (held c.end_state.new.out)
           before c.in_ok-take_piece.ensures.stands c.in_ok-take_piece.ensures.wrote c.end_state.ensures.wrote;
-      front = last_front c.args.limit text c.take_piece.new.state c.end_state.result (held c.args.out.now) (held c.take_piece.new.out) (held c.end_state.new.out)
+      front = last_front c.args.settings.now text c.take_piece.new.state c.end_state.result (held c.args.out.now) (held c.take_piece.new.out) (held c.end_state.new.out)
           before c.in_ok-take_piece.ensures.stands c.in_ok-take_piece.ensures.wrote c.end_state.ensures.front;
       cause = cause_after (faults c.args.out.now) (faults c.take_piece.new.out) (faults c.end_state.new.out) c.end_state.result c.in_ok-take_piece.ensures.cause.later c.end_state.ensures.cause;
     }

@@ -13,7 +13,7 @@ returns-in_err-feed_lines-clause-writes g c =
     record {
       wrote = grind (arith, common_steps);
       front = on_err c.from_residual.result
-          (text_cut c.args.limit c.args.framer.now c.finish.new.self c.args.state.now (held c.args.out.now) (held c.feed_lines.new.out) c.requires.stands c.requires.stream c.requires.size
+          (text_cut c.args.settings.now c.args.framer.now c.finish.new.self c.args.state.now (held c.args.out.now) (held c.feed_lines.new.out) c.requires.stands c.requires.stream c.requires.size
           c.finish.ensures c.in_err-feed_lines.ensures.front);
       cause = grind (arith, common_steps);
     }
@@ -21,7 +21,7 @@ returns-in_err-feed_lines-clause-writes g c =
 pub returns-clause-status : goal.returns-clause-status
 returns-clause-status g c =
     let held = g.K.Sink.held in
-    text_status c.args.limit c.args.framer.now c.finish.new.self c.feed_lines.new.framer c.args.state.now c.feed_lines.new.state c.end_state.result (held c.args.out.now) (held c.feed_lines.new.out)
+    text_status c.args.settings.now c.args.framer.now c.finish.new.self c.feed_lines.new.framer c.args.state.now c.feed_lines.new.state c.end_state.result (held c.args.out.now) (held c.feed_lines.new.out)
     c.requires.stands c.requires.stream c.requires.size c.finish.ensures c.in_ok-feed_lines.ensures.fed c.in_ok-feed_lines.ensures.all c.end_state.ensures.status
 
 pub returns-clause-writes : goal.returns-clause-writes
@@ -29,19 +29,19 @@ returns-clause-writes g c =
     let held = g.K.Sink.held in
     let faults = g.K.Sink.faults in
     record {
-      wrote = text_wrote c.args.limit c.args.framer.now c.finish.new.self c.feed_lines.new.framer c.args.state.now c.feed_lines.new.state c.end_state.result (held c.args.out.now) (held c.feed_lines.new.out)
+      wrote = text_wrote c.args.settings.now c.args.framer.now c.finish.new.self c.feed_lines.new.framer c.args.state.now c.feed_lines.new.state c.end_state.result (held c.args.out.now) (held c.feed_lines.new.out)
           (held c.end_state.new.out) c.requires.stands c.requires.stream c.requires.size c.finish.ensures c.in_ok-feed_lines.ensures.fed c.in_ok-feed_lines.ensures.all c.end_state.ensures.wrote;
-      front = text_front c.args.limit c.args.framer.now c.finish.new.self c.feed_lines.new.framer c.args.state.now c.feed_lines.new.state c.end_state.result (held c.args.out.now) (held c.feed_lines.new.out)
+      front = text_front c.args.settings.now c.args.framer.now c.finish.new.self c.feed_lines.new.framer c.args.state.now c.feed_lines.new.state c.end_state.result (held c.args.out.now) (held c.feed_lines.new.out)
           (held c.end_state.new.out) c.requires.stands c.requires.stream c.requires.size c.finish.ensures c.in_ok-feed_lines.ensures.fed c.in_ok-feed_lines.ensures.all c.end_state.ensures.front;
       cause = cause_after (faults c.args.out.now) (faults c.feed_lines.new.out) (faults c.end_state.new.out) c.end_state.result c.in_ok-feed_lines.ensures.cause.later c.end_state.ensures.cause;
     }
 
 pub returns-in_err-feed_lines-clause-steps : goal.returns-in_err-feed_lines-clause-steps
 returns-in_err-feed_lines-clause-steps g c =
-    text_spent c.args.limit c.args.framer.now c.finish.new.self c.feed_lines.new.framer c.args.state.now c.feed_lines.new.state c.feed_lines.result c.args.steps.now c.feed_lines.new.steps
+    text_spent c.args.settings.now c.args.framer.now c.finish.new.self c.feed_lines.new.framer c.args.state.now c.feed_lines.new.state c.feed_lines.result c.args.steps.now c.feed_lines.new.steps
     c.requires.stands c.requires.stream c.requires.size c.finish.ensures c.feed_lines.ensures.all c.feed_lines.ensures.spends c.feed_lines.ensures.most
 
 pub returns-clause-steps : goal.returns-clause-steps
 returns-clause-steps g c =
-    text_spent c.args.limit c.args.framer.now c.finish.new.self c.feed_lines.new.framer c.args.state.now c.feed_lines.new.state c.feed_lines.result c.args.steps.now c.feed_lines.new.steps
+    text_spent c.args.settings.now c.args.framer.now c.finish.new.self c.feed_lines.new.framer c.args.state.now c.feed_lines.new.state c.feed_lines.result c.args.steps.now c.feed_lines.new.steps
     c.requires.stands c.requires.stream c.requires.size c.finish.ensures c.feed_lines.ensures.all c.feed_lines.ensures.spends c.feed_lines.ensures.most

@@ -16,7 +16,7 @@ returns-then-piece-room-clause-progress g c =
     let piece = c.args.piece.now in
     let room = most_bytes - c.self.inside.taken in
     let long : room < length piece = omega (arith, c.if-piece-room.true) in
-    value_as (Ended (status_of (written_lines s.limit Over (settled (s.text ++ take room piece))))) (progress (with_piece s.text piece) s.limit) c.feed_last.result
+    value_as (Ended (status_of (written_lines s.settings Over (settled (s.text ++ take room piece))))) (progress (with_piece s.text piece) s.settings) c.feed_last.result
     (last_progress s room piece (room_of c.self.inside s c.self.view_is c.requires.live c.self.invariant) long) c.feed_last.ensures.progress
 
 pub returns-then-piece-room-clause-writes : goal.returns-then-piece-room-clause-writes
@@ -25,11 +25,11 @@ returns-then-piece-room-clause-writes g c =
     let piece = c.args.piece.now in
     let room = most_bytes - c.self.inside.taken in
     let long : room < length piece = omega (arith, c.if-piece-room.true) in
-    let W : List ℕ → Type 0 = λ l. Grew (g.K.Sink.held c.args.out.now) (g.K.Sink.held c.feed_last.new.out) (settled_output s.text s.limit) l in
-    let F : List ℕ → Type 0 = λ l. GrewByFront (g.K.Sink.held c.args.out.now) (g.K.Sink.held c.feed_last.new.out) (settled_output s.text s.limit) l in
+    let W : List ℕ → Type 0 = λ l. Grew (g.K.Sink.held c.args.out.now) (g.K.Sink.held c.feed_last.new.out) (settled_output s.text s.settings) l in
+    let F : List ℕ → Type 0 = λ l. GrewByFront (g.K.Sink.held c.args.out.now) (g.K.Sink.held c.feed_last.new.out) (settled_output s.text s.settings) l in
     record {
-      wrote = on_ok_weaker {P = W (written_at Over s.limit (s.text ++ take room piece))} {Q = W (settled_output (with_piece s.text piece) s.limit)} c.feed_last.result (subst W (last_output s room piece (room_of c.self.inside s c.self.view_is c.requires.live c.self.invariant) long)) c.feed_last.ensures.writes.wrote;
-      front = on_err_weaker {P = F (written_at Over s.limit (s.text ++ take room piece))} {Q = F (settled_output (with_piece s.text piece) s.limit)} c.feed_last.result (subst F (last_output s room piece (room_of c.self.inside s c.self.view_is c.requires.live c.self.invariant) long)) c.feed_last.ensures.writes.front;
+      wrote = on_ok_weaker {P = W (written_at Over s.settings (s.text ++ take room piece))} {Q = W (settled_output (with_piece s.text piece) s.settings)} c.feed_last.result (subst W (last_output s room piece (room_of c.self.inside s c.self.view_is c.requires.live c.self.invariant) long)) c.feed_last.ensures.writes.wrote;
+      front = on_err_weaker {P = F (written_at Over s.settings (s.text ++ take room piece))} {Q = F (settled_output (with_piece s.text piece) s.settings)} c.feed_last.result (subst F (last_output s room piece (room_of c.self.inside s c.self.view_is c.requires.live c.self.invariant) long)) c.feed_last.ensures.writes.front;
       cause = c.feed_last.ensures.writes.cause;
     }
 
@@ -39,8 +39,8 @@ returns-else-piece-room-clause-progress g c =
     let piece = c.args.piece.now in
     let room = most_bytes - c.self.inside.taken in
     let short : length piece ≤ room = omega (arith, c.if-piece-room.false) in
-    value_as (progress (s.text ++ piece) s.limit) (progress (with_piece s.text piece) s.limit) c.feed_all.result
-    (ap (λ (l : List ℕ). progress l s.limit) (sym (fits s room piece (room_of c.self.inside s c.self.view_is c.requires.live c.self.invariant) short))) c.feed_all.ensures.progress
+    value_as (progress (s.text ++ piece) s.settings) (progress (with_piece s.text piece) s.settings) c.feed_all.result
+    (ap (λ (l : List ℕ). progress l s.settings) (sym (fits s room piece (room_of c.self.inside s c.self.view_is c.requires.live c.self.invariant) short))) c.feed_all.ensures.progress
 
 pub returns-else-piece-room-clause-text : goal.returns-else-piece-room-clause-text
 returns-else-piece-room-clause-text g c = λ more.
@@ -56,8 +56,8 @@ returns-else-piece-room-clause-writes g c =
     let piece = c.args.piece.now in
     let room = most_bytes - c.self.inside.taken in
     let short : length piece ≤ room = omega (arith, c.if-piece-room.false) in
-    let W : List ℕ → Type 0 = λ l. Grew (g.K.Sink.held c.args.out.now) (g.K.Sink.held c.feed_all.new.out) (settled_output s.text s.limit) (settled_output l s.limit) in
-    let F : List ℕ → Type 0 = λ l. GrewByFront (g.K.Sink.held c.args.out.now) (g.K.Sink.held c.feed_all.new.out) (settled_output s.text s.limit) (settled_output l s.limit) in
+    let W : List ℕ → Type 0 = λ l. Grew (g.K.Sink.held c.args.out.now) (g.K.Sink.held c.feed_all.new.out) (settled_output s.text s.settings) (settled_output l s.settings) in
+    let F : List ℕ → Type 0 = λ l. GrewByFront (g.K.Sink.held c.args.out.now) (g.K.Sink.held c.feed_all.new.out) (settled_output s.text s.settings) (settled_output l s.settings) in
     record {
       wrote = on_ok_weaker {P = W (s.text ++ piece)} {Q = W (with_piece s.text piece)} c.feed_all.result (subst W (sym (fits s room piece (room_of c.self.inside s c.self.view_is c.requires.live c.self.invariant) short))) c.feed_all.ensures.writes.wrote;
       front = on_err_weaker {P = F (s.text ++ piece)} {Q = F (with_piece s.text piece)} c.feed_all.result (subst F (sym (fits s room piece (room_of c.self.inside s c.self.view_is c.requires.live c.self.invariant) short))) c.feed_all.ensures.writes.front;
@@ -70,7 +70,7 @@ returns-then-piece-room-clause-steps g c =
     let piece = c.args.piece.now in
     let room = most_bytes - c.self.inside.taken in
     let long : room < length piece = omega (arith, c.if-piece-room.true) in
-    subst (λ (n : ℕ). SpendsOnText c.args.steps.now c.feed_last.new.steps (settled_work s.text s.limit) n)
+    subst (λ (n : ℕ). SpendsOnText c.args.steps.now c.feed_last.new.steps (settled_work s.text s.settings) n)
     (last_work s room piece (room_of c.self.inside s c.self.view_is c.requires.live c.self.invariant) long) c.feed_last.ensures.steps
 
 pub returns-else-piece-room-clause-steps : goal.returns-else-piece-room-clause-steps
@@ -79,5 +79,5 @@ returns-else-piece-room-clause-steps g c =
     let piece = c.args.piece.now in
     let room = most_bytes - c.self.inside.taken in
     let short : length piece ≤ room = omega (arith, c.if-piece-room.false) in
-    subst (λ (l : List ℕ). SpendsOnText c.args.steps.now c.feed_all.new.steps (settled_work s.text s.limit) (settled_work l s.limit))
+    subst (λ (l : List ℕ). SpendsOnText c.args.steps.now c.feed_all.new.steps (settled_work s.text s.settings) (settled_work l s.settings))
     (sym (fits s room piece (room_of c.self.inside s c.self.view_is c.requires.live c.self.invariant) short)) c.feed_all.ensures.steps

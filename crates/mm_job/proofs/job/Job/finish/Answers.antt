@@ -13,8 +13,8 @@ returns-clause-writes g c =
     let W : List ℕ → List ℕ → Type 0 = λ a b. Grew (held c.args.out.now) (held c.take_text_end.new.out) a b in
     let F : List ℕ → List ℕ → Type 0 = λ a b. GrewByFront (held c.args.out.now) (held c.take_text_end.new.out) a b in
     record {
-      wrote = on_ok_weaker {P = W (written_at More i.limit i.framer.bytes) (output i.framer.bytes i.limit)} {Q = W (settled_output c.args.self.now.text c.args.self.now.limit) (output c.args.self.now.text c.args.self.now.limit)} c.take_text_end.result (of_state W (λ limit text. output text limit) i c.args.self.now c.self.view_is (live_of i c.args.self.now c.self.view_is c.requires.live c.self.invariant).size) c.take_text_end.ensures.writes.wrote;
-      front = on_err_weaker {P = F (written_at More i.limit i.framer.bytes) (output i.framer.bytes i.limit)} {Q = F (settled_output c.args.self.now.text c.args.self.now.limit) (output c.args.self.now.text c.args.self.now.limit)} c.take_text_end.result (of_state F (λ limit text. output text limit) i c.args.self.now c.self.view_is (live_of i c.args.self.now c.self.view_is c.requires.live c.self.invariant).size) c.take_text_end.ensures.writes.front;
+      wrote = on_ok_weaker {P = W (written_at More i.settings i.framer.bytes) (output i.framer.bytes i.settings)} {Q = W (settled_output c.args.self.now.text c.args.self.now.settings) (output c.args.self.now.text c.args.self.now.settings)} c.take_text_end.result (of_state W (λ settings text. output text settings) i c.args.self.now c.self.view_is (live_of i c.args.self.now c.self.view_is c.requires.live c.self.invariant).size) c.take_text_end.ensures.writes.wrote;
+      front = on_err_weaker {P = F (written_at More i.settings i.framer.bytes) (output i.framer.bytes i.settings)} {Q = F (settled_output c.args.self.now.text c.args.self.now.settings) (output c.args.self.now.text c.args.self.now.settings)} c.take_text_end.result (of_state F (λ settings text. output text settings) i c.args.self.now c.self.view_is (live_of i c.args.self.now c.self.view_is c.requires.live c.self.invariant).size) c.take_text_end.ensures.writes.front;
       cause = c.take_text_end.ensures.writes.cause;
     }
 
