@@ -2,7 +2,7 @@
 use Rattle.std.specs.Prelude.{◌≡◌, ℕ, List, slice_index_or, Option, Some, None}
 use Rattle.mm_least.specs.declared.row.Row.{Row}
 use Rattle.mm_least.specs.declared.row.Origin.{Origin}
-use Rattle.mm_least.specs.declared.row.Origin.TheVariants.{Out, Pair}
+use Rattle.mm_least.specs.declared.row.Origin.TheVariants.{Pair}
 
 -- the row at a place, if there is one, comes from there
 abbrev pub ComesAt : List Row → Origin → Option ℕ → Type 0

@@ -1,8 +1,7 @@
-use Rattle.std.proofs.Common.{◌≡◌, ◌++◌, Some, [], sym, ap, ◌∙◌, subst}
+use Rattle.std.proofs.Common.{◌≡◌, Some, subst}
 use Rattle.mm_nodes.specs.KeptTrees.{top}
 use Rattle.mm_nodes.specs.KeptNodes.{tree_of}
 use Rattle.mm_least.specs.NodeRowsValue.{NodeValue}
-use Rattle.mm_least.specs.LeastSets.{names_of}
 use Rattle.mm_least.proofs.AnswerLemmas.{empty_names, nothing_added}
 use Rattle.mm_least.proofs.best.+add_names.Goals as goal
 
