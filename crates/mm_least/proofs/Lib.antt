@@ -6,4 +6,5 @@ pub mod PassLemmas
 pub mod WalkLemmas
 pub mod NodeLemmas
 pub mod LogLemmas
+pub mod FoundLemmas
 pub mod KnownLemmas

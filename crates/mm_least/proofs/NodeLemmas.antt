@@ -9,7 +9,7 @@ use Rattle.mm_logic.specs.Marks.{mark, no_marks}
 use Rattle.mm_logic.specs.Occurrence.{nodes as parts, occurring, distinct}
 use Rattle.mm_logic.specs.StateSize.Query.{Least}
 use Rattle.mm_logic.specs.JoinRule.{join_type, all_pairs}
-use Rattle.mm_logic.specs.Growth.{type_at, missing_cells, AllBegin, AllGrown}
+use Rattle.mm_logic.specs.Growth.{root, type_at, missing_cells, AllBegin, AllGrown}
 use Rattle.mm_logic.proofs.GrowthLemmas.{AllBegin-grown, list_cells-grown}
 use Rattle.mm_logic_laws.specs.ValueLaws.{types_by_rules}
 use Rattle.mm_ops.specs.OpValue.{OpValue}
@@ -24,17 +24,25 @@ use Rattle.mm_nodes.specs.LeafLetters.{IsLetterOf, vec_of}
 use Rattle.mm_nodes.specs.declared.keeps.KeepFault.{KeepFault}
 use Rattle.mm_nodes.specs.declared.keeps.KeepFault.TheVariants.{Full, NoMemory}
 use Rattle.mm_nodes.proofs.LetterLemmas.{letter_type}
+use Rattle.mm_nodes.proofs.RoomLemmas.{exact-then}
+use Rattle.mm_states.specs.Lists.{AllFit}
 use Rattle.mm_least.specs.declared.row.Row.{Row}
 use Rattle.mm_least.specs.declared.row.Origin.{Origin}
 use Rattle.mm_least.specs.declared.row.Origin.TheVariants.{Out, Taken}
-use Rattle.mm_least.specs.Transitions.{TransitionValue, AreIn, IsTransition, IsKnown, Told, IsTableOf}
+use Rattle.mm_least.specs.Transitions.{TransitionValue, AreIn, ArePlaces, named, IsKnown, Told, IsTableOf}
 use Rattle.mm_least.specs.NodeRowsValue.{NodeValue}
 use Rattle.mm_least.specs.Rows.{shown}
 use Rattle.mm_least.specs.Candidates.{Candidate, candidate, put_all, types_of, held, typed, leaf_candidates, pairs_of}
-use Rattle.mm_least.specs.BestLaws.{Different, best-count, put_all-different}
+use Rattle.mm_least.specs.BestLaws.{Different, best-count}
 use Rattle.mm_least.specs.Passes.{AreWithin, Passed, AreTooMany, Passes, AreOperands}
+use Rattle.mm_least.specs.EmptySets.{ComesFromBoth}
 use Rattle.mm_least.specs.RowCalls.{IsLeaf, IsJoinRows, MadeRows, MakesRows, IsNodeOf, row_types}
 use Rattle.mm_least.specs.RowLaws.{within-stays, held-stays, of-types}
+use Rattle.mm_least.specs.declared.found.Found.{Found}
+use Rattle.mm_least.specs.Logs.{AreApart}
+use Rattle.mm_least.specs.FoundTypes.{IsFound, names_of, rows_of}
+use Rattle.mm_least.proofs.PassLemmas.{tells_apart}
+use Rattle.mm_least.proofs.FoundLemmas.{different_types}
 use Rattle.mm_least.proofs.WalkLemmas.{passed_none, passed_then, too_many_then, typed_stays}
 
 -- ---- the marks of a leaf
@@ -165,8 +173,8 @@ module _ (F : Formula) (op : OpValue) (olds nows : List (List Value)) (a b n : N
   grows : AllBegin olds nows
   grows = AllBegin-grown olds nows _ p.grown
 
-  pub joins_rows : IsKnown (record { f = op.f; F = F; lists = nows }) op.op n.known → IsJoinRows (record { f = op.f; F = F; lists = nows }) op.op a b n
-  joins_rows known = record {
+  pub joins_rows : IsKnown (record { f = op.f; F = F; lists = nows }) op.op n.known → ComesFromBoth a.nothing b.nothing n.rows n.nothing → IsJoinRows (record { f = op.f; F = F; lists = nows }) op.op a b n
+  joins_rows known nothing = record {
     left_within = within-stays F olds nows (shown a.rows) grows (operands_within F op.f op.op.t1 olds (shown a.rows) ao);
     right_within = within-stays F olds nows (shown b.rows) grows (operands_within F op.f op.op.t2 olds (shown b.rows) bo);
     within = p.within;
@@ -174,49 +182,55 @@ module _ (F : Formula) (op : OpValue) (olds nows : List (List Value)) (a b n : N
         p.best
         ∙ (λ i. put_all (pairs_of (join_type op.f F op.op) (sym (typed_stays F op.f op.op.t1 olds nows (shown a.rows) grows ao) i) 0 (sym (typed_stays F op.f op.op.t2 olds nows (shown b.rows) grows bo) i)) []);
     known = known;
+    nothing = nothing;
   }
 
   types_now : (rows : List Row) → AreWithin F olds (shown rows) → types_of (held F olds rows) ≡ map (type_at F nows) (map (λ r. r.id) rows)
   types_now rows w = ap types_of (sym (held-stays F olds nows rows grows w)) ∙ sym (types_held F nows rows)
 
-  node_known : (table : List ℕ) (known : Option TransitionValue)
-      → Told F olds nows [] table (types_of (pairs_of (join_type op.f F op.op) (typed F olds (shown a.rows)) 0 (typed F olds (shown b.rows)))) → IsTableOf a.rows b.rows n.rows table known
-      → IsKnown (record { f = op.f; F = F; lists = nows }) op.op known
-  node_known table None told is = tt
-  node_known table (Some t) told is =
-      let aw = operands_within F op.f op.op.t1 olds (shown a.rows) ao in
-      let bw = operands_within F op.f op.op.t2 olds (shown b.rows) bo in
-      record {
-        left_within = subst (AreIn F nows) (sym is.left) (ids_in F nows a.rows (within-stays F olds nows (shown a.rows) grows aw));
-        right_within = subst (AreIn F nows) (sym is.right) (ids_in F nows b.rows (within-stays F olds nows (shown b.rows) grows bw));
-        within = subst (AreIn F nows) (sym is.ids) (ids_in F nows n.rows p.within);
-        different =
-            subst Different (sym (ap (map (type_at F nows)) is.ids ∙ types_held F nows n.rows ∙ ap types_of p.best))
-            (put_all-different (pairs_of (join_type op.f F op.op) (typed F olds (shown a.rows)) 0 (typed F olds (shown b.rows))) [] tt);
-        placed = is.placed;
-        tells =
-            ap (map (type_at F nows)) is.names ∙ told.tells ∙ of-types F olds (join_type op.f F op.op) a.rows b.rows 0
-            ∙ (λ i. all_pairs (join_type op.f F op.op) ((types_now a.rows aw ∙ ap (map (type_at F nows)) (sym is.left)) i) ((types_now b.rows bw ∙ ap (map (type_at F nows)) (sym is.right)) i));
-      }
+  module _ (exact : IsExact F olds) (ids table : List ℕ) (apart : AreApart ids) (placed : ArePlaces ids table) (occur : (n : ℕ) → AllFit (λ id. id < n) (named ids table) → AllFit (λ id. id < n) ids)
+      (told : Told F olds nows [] (named ids table) (types_of (pairs_of (join_type op.f F op.op) (typed F olds (shown a.rows)) 0 (typed F olds (shown b.rows))))) where
+    all_in : AreIn F nows ids
+    all_in = occur (length (root F nows)) told.within
 
-  pub made_node : (table : List ℕ) → Told F olds nows [] table (types_of (pairs_of (join_type op.f F op.op) (typed F olds (shown a.rows)) 0 (typed F olds (shown b.rows)))) → IsTableOf a.rows b.rows n.rows table n.known
-      → MadeRows F olds nows (IsJoinRows (record { f = op.f; F = F; lists = nows }) op.op a b)
-      (all_pairs (join_type op.f F op.op) (row_types (record { f = op.f; F = F; lists = olds }) a) (row_types (record { f = op.f; F = F; lists = olds }) b)) room n
-  made_node table told is =
-      made_rows F olds nows (pairs_of (join_type op.f F op.op) (typed F olds (shown a.rows)) 0 (typed F olds (shown b.rows))) _ (of-types F olds (join_type op.f F op.op) a.rows b.rows 0) room
-      (IsJoinRows (record { f = op.f; F = F; lists = nows }) op.op a b) n rest (joins_rows (node_known table n.known told is)) p
+    node_known : (known : Option TransitionValue) → IsTableOf a.rows b.rows ids table known → IsKnown (record { f = op.f; F = F; lists = nows }) op.op known
+    node_known None is = tt
+    node_known (Some t) is =
+        let aw = operands_within F op.f op.op.t1 olds (shown a.rows) ao in
+        let bw = operands_within F op.f op.op.t2 olds (shown b.rows) bo in
+        record {
+          left_within = subst (AreIn F nows) (sym is.left) (ids_in F nows a.rows (within-stays F olds nows (shown a.rows) grows aw));
+          right_within = subst (AreIn F nows) (sym is.right) (ids_in F nows b.rows (within-stays F olds nows (shown b.rows) grows bw));
+          within = subst (AreIn F nows) (sym is.ids_are) all_in;
+          different =
+              subst (λ is. Different (map (type_at F nows) is)) (sym is.ids_are)
+              (different_types (type_at F nows) (length (root F nows)) (tells_apart F nows (exact-then F olds nows _ exact p.grown)) ids all_in apart);
+          placed = subst (λ is. ArePlaces is t.table) (sym is.ids_are) (subst (ArePlaces ids) (sym is.table_is) placed);
+          tells =
+              (λ i. map (type_at F nows) (named (is.ids_are i) (is.table_is i))) ∙ told.tells ∙ of-types F olds (join_type op.f F op.op) a.rows b.rows 0
+              ∙ (λ i. all_pairs (join_type op.f F op.op) ((types_now a.rows aw ∙ ap (map (type_at F nows)) (sym is.left)) i) ((types_now b.rows bw ∙ ap (map (type_at F nows)) (sym is.right)) i));
+        }
+
+    pub made_node : IsTableOf a.rows b.rows ids table n.known → ComesFromBoth a.nothing b.nothing n.rows n.nothing
+        → MadeRows F olds nows (IsJoinRows (record { f = op.f; F = F; lists = nows }) op.op a b)
+        (all_pairs (join_type op.f F op.op) (row_types (record { f = op.f; F = F; lists = olds }) a) (row_types (record { f = op.f; F = F; lists = olds }) b)) room n
+    made_node is nothing =
+        made_rows F olds nows (pairs_of (join_type op.f F op.op) (typed F olds (shown a.rows)) 0 (typed F olds (shown b.rows))) _ (of-types F olds (join_type op.f F op.op) a.rows b.rows 0) room
+        (IsJoinRows (record { f = op.f; F = F; lists = nows }) op.op a b) n rest (joins_rows (node_known n.known is) nothing) p
 
 -- a node that is made, or want of memory
-pub node_made : (F : Formula) (op : OpValue) (olds nows : List (List Value)) (a b : NodeValue) → AreOperands F op.f op.op.t1 olds (shown a.rows) → AreOperands F op.f op.op.t2 olds (shown b.rows)
-    → (rows : List Row) (room rest : ℕ) → Passed F olds nows (pairs_of (join_type op.f F op.op) (typed F olds (shown a.rows)) 0 (typed F olds (shown b.rows))) [] rows room rest
-    → (table : List ℕ) → Told F olds nows [] table (types_of (pairs_of (join_type op.f F op.op) (typed F olds (shown a.rows)) 0 (typed F olds (shown b.rows))))
-    → (result : Result NodeValue KeepFault) → IsNodeOf rows a.rows b.rows table result
+pub node_made : (F : Formula) (op : OpValue) (olds nows : List (List Value)) (a b : NodeValue) → AreOperands F op.f op.op.t1 olds (shown a.rows) → AreOperands F op.f op.op.t2 olds (shown b.rows) → IsExact F olds
+    → (found : Found) → IsFound found → (room rest : ℕ) → Passed F olds nows (pairs_of (join_type op.f F op.op) (typed F olds (shown a.rows)) 0 (typed F olds (shown b.rows))) [] (rows_of found) room rest
+    → Told F olds nows [] (names_of found) (types_of (pairs_of (join_type op.f F op.op) (typed F olds (shown a.rows)) 0 (typed F olds (shown b.rows))))
+    → (result : Result NodeValue KeepFault) → IsNodeOf (rows_of found) a.rows b.rows a.nothing b.nothing found.ids.items found.table.items result
     → MakesRows F olds nows (IsJoinRows (record { f = op.f; F = F; lists = nows }) op.op a b)
     (all_pairs (join_type op.f F op.op) (row_types (record { f = op.f; F = F; lists = olds }) a) (row_types (record { f = op.f; F = F; lists = olds }) b)) room result
-node_made F op olds nows a b ao bo rows room rest p table told (Ok n) is =
+node_made F op olds nows a b ao bo exact found h room rest p told (Ok n) is =
     made_node F op olds nows a b n ao bo room rest
-    (subst (λ (rs : List Row). Passed F olds nows (pairs_of (join_type op.f F op.op) (typed F olds (shown a.rows)) 0 (typed F olds (shown b.rows))) [] rs room rest) (sym is.0) p) table told (subst (λ (rs : List Row). IsTableOf a.rows b.rows rs table n.known) (sym is.0) is.1)
-node_made F op olds nows a b ao bo rows room rest p table told (Err e) is = λ full. absurd (not_both e is full)
+    (subst (λ (rs : List Row). Passed F olds nows (pairs_of (join_type op.f F op.op) (typed F olds (shown a.rows)) 0 (typed F olds (shown b.rows))) [] rs room rest) (sym is.0) p)
+    exact found.ids.items found.table.items h.apart h.tabled h.occur told is.1
+    (subst (λ (rs : List Row). ComesFromBoth a.nothing b.nothing rs n.nothing) (sym is.0) is.2)
+node_made F op olds nows a b ao bo exact found h room rest p told (Err e) is = λ full. absurd (not_both e is full)
   where
     not_both : (f : KeepFault) → f ≡ NoMemory → f ≡ Full → ⊥
     not_both f p q = cc

@@ -10,7 +10,7 @@ use Rattle.mm_logic.specs.Occurrence.{same, is_among, distinct, fresh, nodes as 
 use Rattle.mm_logic.specs.Growth.{root, type_at, no_values, missing_cells, Grown, AllBegin}
 use Rattle.mm_logic.proofs.BagLemmas.{sum_by-cons}
 use Rattle.mm_logic.proofs.OccurrenceLemmas.{same_flip}
-use Rattle.mm_logic.proofs.GrowthLemmas.{members-distinct, AllBegin-grown, none_missing_cells, type_at-begins, within-begins, list_cells-grown}
+use Rattle.mm_logic.proofs.GrowthLemmas.{members-distinct, AllBegin-grown, none_missing_cells, type_at-begins, list_cells-grown}
 use Rattle.mm_states.specs.Calls.{Numbers}
 use Rattle.mm_states.specs.declared.letter.AutoFault.{AutoFault}
 use Rattle.mm_states.specs.declared.letter.AutoFault.TheVariants as auto

@@ -4,7 +4,9 @@ pub mod BestLaws
 pub mod Passes
 pub mod Transitions
 pub mod Logs
+pub mod FoundTypes
 pub mod KnownRows
+pub mod EmptySets
 pub mod NodeRowsValue
 pub mod RowCalls
 pub mod RowLaws

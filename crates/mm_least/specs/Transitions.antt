@@ -69,20 +69,13 @@ pub record Told (F : Formula) (olds nows : List (List Value)) (before after : Li
   pub within : AreIn F nows after
   pub tells : map (type_at F nows) after ≡ map (type_at F olds) before ++ vs
 
--- places of the numbers of a table, or want of memory
-abbrev pub PlacesOf : (ids table : List ℕ) → Result (Option (Vec ℕ Global)) KeepFault → Type 0
-PlacesOf ids table (Ok (Some places)) = ArePlaces ids places.items × (named ids places.items ≡ table)
-PlacesOf ids table (Ok None) = Unit {0}
-PlacesOf ids table (Err e) = e ≡ NoMemory
-
--- what is known, if anything, is what a table has of rows
-pub record HasTable (lefts rights rows : List Row) (table : List ℕ) (t : TransitionValue) : Type 0 where
+-- what is known, if anything, is the table of pairs of rows, with the places of these numbers
+pub record HasTable (lefts rights : List Row) (ids table : List ℕ) (t : TransitionValue) : Type 0 where
   pub left : t.left ≡ map (λ r. r.id) lefts
   pub right : t.right ≡ map (λ r. r.id) rights
-  pub ids : t.ids ≡ map (λ r. r.id) rows
-  pub placed : ArePlaces t.ids t.table
-  pub names : named t.ids t.table ≡ table
+  pub ids_are : t.ids ≡ ids
+  pub table_is : t.table ≡ table
 
-abbrev pub IsTableOf : (left right rows : List Row) → List ℕ → Option TransitionValue → Type 0
-IsTableOf left right rows table (Some t) = HasTable left right rows table t
-IsTableOf left right rows table None = Unit {0}
+abbrev pub IsTableOf : (left right : List Row) → (ids table : List ℕ) → Option TransitionValue → Type 0
+IsTableOf left right ids table (Some t) = HasTable left right ids table t
+IsTableOf left right ids table None = Unit {0}

@@ -2,6 +2,8 @@
 #![tactic(auto)]
 
 mod best;
+mod empty;
+mod found;
 mod known;
 mod laws;
 mod least;

@@ -15,33 +15,39 @@ ghost use Rattle.mm_tree.specs.Nodes.{named_leaf};
 ghost use Rattle.mm_nodes.specs.Demands.{Frame, IsExact, frame};
 ghost use Rattle.mm_nodes.specs.Calls.{CanMakeLeaf};
 ghost use Rattle.mm_least.specs.Rows.{shown};
+ghost use Rattle.mm_least.specs.FoundTypes.{IsFound, rows_of};
 ghost use Rattle.mm_least.specs.RowLaws.{ShowSame, asks, leaf_has, join_has, fits, leaf_stays, join_stays};
 ghost use Rattle.mm_least.specs.RowLaws.{same_left, same_right, same_itself, knows_join, knows_stays};
 ghost use Rattle.mm_least.specs.RowCalls.{IsLeafRows, IsJoinRows, CanBeJoined, MakesRows, IsNodeOf, IsNodeAgain};
 ghost use Rattle.mm_least.specs.RowCalls.{KnowsJoins, row_types, element_name};
 
+use crate::empty::{place_from, place_from_both, same_place};
+use crate::found::Found;
 use crate::known::known_rows;
+use crate::log::standing;
 use crate::pass::{add_leaf, add_pairs};
 use crate::row::show_same;
-use crate::transition::{Transition, ids_of, places_of};
-use crate::{LeastFault, Row};
+use crate::transition::{Transition, ids_of};
+use crate::{LeastFault, Origin, Row};
 use mm_base::{Name, Steps};
 use mm_nodes::Keeps;
 use mm_ops::Op;
-use mm_states::{Automaton, TypeId};
+use mm_states::Automaton;
 use mm_tree::Leaf;
 use std::alloc::Global;
 use std::marker::Model;
 use std::rc::Rc;
 use std::sync::ledger::Ledger;
 
-/// One row for each type at a node, in the order of the leaf words of their sets; the name of the element of a leaf; and at a join
-/// the types that its operator made. It is made for a node, with one step, and never copied; what it knows of its operator may be shared.
+/// One row for each type at a node, in the order of the leaf words of their sets; the name of the element of a leaf; at a join the types
+/// that its operator made; and the place of the row whose set is empty, if there is one. It is made for a node, with one step, and never
+/// copied; what it knows of its operator may be shared.
 #[derive(Drop)]
 pub struct NodeRows {
     pub(crate) name: Option<Name>,
     pub(crate) rows: Vec<Row>,
     pub(crate) known: Option<Rc<Transition>>,
+    pub(crate) nothing: Option<u32>,
 }
 
 impl Model for NodeRows {
@@ -53,7 +59,7 @@ impl Model for NodeRows {
 
     ghost coded = { node_code };
 
-    ghost view = { λ s. record { name = s.name; rows = s.rows.items; known = option_map (λ t. t.value) s.known } };
+    ghost view = { λ s. record { name = s.name; rows = s.rows.items; known = option_map (λ t. t.value) s.known; nothing = s.nothing } };
 
     ghost invariant = { λ s. length s.rows.items < 4294967296 };
 }
@@ -81,11 +87,15 @@ impl NodeRows {
         let mut rows = Vec::new(alloc);
         let mut left = room;
         match add_leaf(alloc, automaton, leaf, &mut rows, &mut left) {
-            Ok(()) => Ok(NodeRows {
-                name: name_of(leaf),
-                rows,
-                known: None,
-            }),
+            Ok(()) => {
+                let nothing = place_from(&rows, Origin::Out);
+                Ok(NodeRows {
+                    name: name_of(leaf),
+                    rows,
+                    known: None,
+                    nothing,
+                })
+            }
             Err(fault) => Err(fault),
         }
     }
@@ -116,8 +126,7 @@ impl NodeRows {
             (row_types (frame op.now.f (A.shape automaton.old) (A.lists automaton.old)) right.now)) room result }
     {
         steps.tick();
-        let mut rows = Vec::new(alloc);
-        let mut table = Vec::new(alloc);
+        let mut found = Found::new(alloc);
         let mut rest = room;
         let whole = room + automaton.cells();
         match add_pairs(
@@ -127,11 +136,17 @@ impl NodeRows {
             &left.rows,
             &right.rows,
             whole,
-            &mut rows,
+            &mut found,
             &mut rest,
-            &mut table,
         ) {
-            Ok(()) => joined(alloc, rows, &left.rows, &right.rows, table),
+            Ok(()) => joined(
+                alloc,
+                &left.rows,
+                &right.rows,
+                left.nothing,
+                right.nothing,
+                found,
+            ),
             Err(fault) => Err(fault),
         }
     }
@@ -170,7 +185,7 @@ impl NodeRows {
         match known_rows(alloc, &left.rows, &right.rows, transition) {
             Ok(Some(rows)) => {
                 steps.tick();
-                joined_again(rows, transition, room)
+                joined_again(rows, transition, left.nothing, right.nothing, room)
             }
             Ok(None) => NodeRows::join(alloc, automaton, op, left, right, room, steps),
             Err(fault) => {
@@ -238,7 +253,7 @@ impl Keeps for NodeRows {
     }
 
     fn looks_same(&self, other: &NodeRows) -> bool {
-        show_same(&self.rows, &other.rows)
+        show_same(&self.rows, &other.rows) && same_place(self.nothing, other.nothing)
     }
 
     fn sketch(&self, alloc: Global) -> Option<NodeRows> {
@@ -250,6 +265,7 @@ impl Keeps for NodeRows {
                 name: None,
                 rows: Vec::new(alloc),
                 known: Some(transition),
+                nothing: None,
             }),
             Err(_) => None,
         }
@@ -291,21 +307,33 @@ fn name_of(leaf: &Leaf) -> Option<Name>
 /// No more pairs of types are kept at a node.
 const MOST_PAIRS: usize = 16384;
 
-/// The node of a join by its rows and the table of the types of all pairs.
+/// The node of a join by what was found for its pairs.
 fn joined(
     alloc: Global,
-    rows: Vec<Row>,
     left: &[Row],
     right: &[Row],
-    table: Vec<TypeId>,
+    nothing_left: Option<u32>,
+    nothing_right: Option<u32>,
+    found: Found,
 ) -> Result<NodeRows, LeastFault>
-    requires { length rows.items < 4294967296 }
-    ensures { IsNodeOf rows.items left.now right.now table.items result }
+    requires found { IsFound found }
+    requires few { length (rows_of found) < 4294967296 }
+    ensures { IsNodeOf (rows_of found) left.now right.now nothing_left nothing_right found.ids.items found.table.items result }
 {
+    let rows = match standing(alloc, &found.lasts, &found.log) {
+        Ok(rows) => rows,
+        Err(fault) => return Err(fault),
+    };
+    let nothing = place_from_both(nothing_left, nothing_right, &rows);
     let name = None;
-    if table.len() > MOST_PAIRS {
+    if found.table.len() > MOST_PAIRS {
         let known = None;
-        return Ok(NodeRows { name, rows, known });
+        return Ok(NodeRows {
+            name,
+            rows,
+            known,
+            nothing,
+        });
     }
     let left = match ids_of(alloc, left) {
         Ok(ids) => ids,
@@ -315,31 +343,24 @@ fn joined(
         Ok(ids) => ids,
         Err(fault) => return Err(fault),
     };
-    let ids = match ids_of(alloc, &rows) {
-        Ok(ids) => ids,
-        Err(fault) => return Err(fault),
+    let Found { ids, table, .. } = found;
+    let transition = Transition {
+        left,
+        right,
+        ids,
+        table,
     };
-    match places_of(alloc, &ids, &table) {
-        Ok(Some(table)) => {
-            let transition = Transition {
-                left,
-                right,
-                ids,
-                table,
-            };
-            match Rc::new(alloc, transition) {
-                Ok(transition) => {
-                    let known = Some(transition);
-                    Ok(NodeRows { name, rows, known })
-                }
-                Err(_) => Err(LeastFault::NoMemory),
-            }
+    match Rc::new(alloc, transition) {
+        Ok(transition) => {
+            let known = Some(transition);
+            Ok(NodeRows {
+                name,
+                rows,
+                known,
+                nothing,
+            })
         }
-        Ok(None) => {
-            let known = None;
-            Ok(NodeRows { name, rows, known })
-        }
-        Err(fault) => Err(fault),
+        Err(_) => Err(LeastFault::NoMemory),
     }
 }
 
@@ -347,19 +368,27 @@ fn joined(
 fn joined_again(
     rows: Vec<Row>,
     transition: &Rc<Transition>,
+    nothing_left: Option<u32>,
+    nothing_right: Option<u32>,
     room: u64,
 ) -> Result<NodeRows, LeastFault>
     requires { room < 4294967296 }
-    ensures { IsNodeAgain rows.items transition.now.value room result }
+    ensures { IsNodeAgain rows.items transition.now.value nothing_left nothing_right room result }
 {
     if rows.len() as u64 > room {
         return Err(LeastFault::Full);
     }
+    let nothing = place_from_both(nothing_left, nothing_right, &rows);
     match transition.clone() {
         Ok(transition) => {
             let name = None;
             let known = Some(transition);
-            Ok(NodeRows { name, rows, known })
+            Ok(NodeRows {
+                name,
+                rows,
+                known,
+                nothing,
+            })
         }
         Err(_) => Err(LeastFault::NoMemory),
     }

@@ -1,6 +1,6 @@
 //! The walk over the candidates of a node.
 
-ghost use Rattle.std.specs.Prelude.{◌≡◌, ◌<◌, ◌≤◌, ◌+◌, ℕ, ℤ, List, [], ◌∷◌, OnOk, length, nat_abs, ◌+ℤ◌};
+ghost use Rattle.std.specs.Prelude.{◌≡◌, ◌<◌, ◌≤◌, ◌+◌, ℕ, ℤ, List, [], ◌∷◌, OnOk, false, length, nat_abs, ◌+ℤ◌};
 ghost use Rattle.mm_logic.specs.Growth.{type_at};
 ghost use Rattle.mm_logic.specs.JoinRule.{join_type};
 ghost use Rattle.mm_logic.specs.Occurrence.{nodes as parts, list_cells};
@@ -14,13 +14,15 @@ ghost use Rattle.mm_nodes.specs.Calls.{CanMakeLeaf};
 ghost use Rattle.mm_least.specs.Rows.{shown};
 ghost use Rattle.mm_least.specs.Candidates.{candidate, leaf_candidates, typed, types_of, pairs_with, pairs_of};
 ghost use Rattle.mm_least.specs.Transitions.{AreIn, Told};
+ghost use Rattle.mm_least.specs.FoundTypes.{IsFound, AddsFound, is_in, names_of, rows_of};
 ghost use Rattle.mm_least.specs.Passes.{AreWithin, Passes, IsFaultOf, AreOperands, AreLight, most_sum};
 
-use crate::row::{add_new_row, add_row, place_of, replace_row};
+use crate::found::Found;
+use crate::row::add_row;
 use crate::{LeastFault, Origin, Row};
 use mm_nodes::letter_of;
 use mm_ops::Op;
-use mm_states::{AutoFault, Automaton, Letter, TypeId};
+use mm_states::{AutoFault, Automaton, Letter};
 use mm_tree::Leaf;
 use std::alloc::Global;
 
@@ -107,6 +109,20 @@ pub(crate) fn add_leaf<A: Automaton>(
     }
 }
 
+/// Puts the row of another type; it takes one of the room.
+fn put_new(row: Row, found: &mut Found, room: &mut u64) -> Result<(), LeastFault>
+    requires found { IsFound found.old }
+    requires new { is_in row.id found.old.ids.items ≡ false }
+    requires few { room.old + length (rows_of found.old) < 4294967296 }
+    ensures { AddsFound row found.old found.new room.old room.new result }
+{
+    if *room == 0 {
+        return Err(LeastFault::Full);
+    }
+    *room -= 1;
+    found.put_new(row)
+}
+
 /// One candidate of a join. The room, the rows and the cells sum to `whole` throughout.
 fn add_pair<A: Automaton>(
     alloc: Global,
@@ -116,48 +132,44 @@ fn add_pair<A: Automaton>(
     right: &Row,
     origin: Origin,
     whole: u64,
-    rows: &mut Vec<Row>,
+    found: &mut Found,
     room: &mut u64,
-    table: &mut Vec<TypeId>,
 ) -> Result<(), LeastFault>
-    requires whole { whole ≡ room.old + length rows.old.items + list_cells (parts (A.shape automaton.old)) (A.lists automaton.old) }
+    requires whole { whole ≡ room.old + length (rows_of found.old) + list_cells (parts (A.shape automaton.old)) (A.lists automaton.old) }
+    requires whole_few { whole < 4294967296 }
     requires can { CanJoin (A.shape automaton.old) (A.field automaton.old) (A.lists automaton.old) op.now
         left.now.id right.now.id room.old }
     requires exact { IsExact (A.shape automaton.old) (A.lists automaton.old) }
-    requires within { AreWithin (A.shape automaton.old) (A.lists automaton.old) (shown rows.old.items) }
-    requires listed { AreIn (A.shape automaton.old) (A.lists automaton.old) table.old.items }
+    requires found { IsFound found.old }
+    requires within { AreWithin (A.shape automaton.old) (A.lists automaton.old) (shown (rows_of found.old)) }
+    requires listed { AreIn (A.shape automaton.old) (A.lists automaton.old) (names_of found.old) }
     requires left { nat_abs left.now.weight ≤ most_sum }
     requires right { nat_abs right.now.weight ≤ most_sum }
     ensures shape { A.shape automaton.new ≡ A.shape automaton.old }
     ensures field { A.field automaton.new ≡ A.field automaton.old }
     ensures marked { A.marked automaton.new ≡ A.marked automaton.old }
+    ensures found { OnOk result (IsFound found.new) }
     ensures passes { Passes (A.shape automaton.old) (A.lists automaton.old) (A.lists automaton.new)
         (candidate (value_of_join (A.shape automaton.old) (A.lists automaton.old) op.now left.now.id right.now.id)
-        (left.now.weight +ℤ right.now.weight) origin ∷ []) rows.old.items rows.new.items room.old room.new result }
-    ensures told { OnOk result (Told (A.shape automaton.old) (A.lists automaton.old) (A.lists automaton.new) table.old.items
-        table.new.items (value_of_join (A.shape automaton.old) (A.lists automaton.old) op.now left.now.id right.now.id ∷ [])) }
+        (left.now.weight +ℤ right.now.weight) origin ∷ []) (rows_of found.old) (rows_of found.new) room.old room.new result }
+    ensures told { OnOk result (Told (A.shape automaton.old) (A.lists automaton.old) (A.lists automaton.new) (names_of found.old)
+        (names_of found.new) (value_of_join (A.shape automaton.old) (A.lists automaton.old) op.now left.now.id right.now.id ∷ [])) }
 {
     let weight = left.weight + right.weight;
     match automaton.join(alloc, op, left.id, right.id, *room) {
-        Ok(id) => {
-            if table.push(id).is_err() {
-                return Err(LeastFault::NoMemory);
+        Ok(id) => match found.place_of(id) {
+            // The type has a row: it was in the lists, and no cell was missing.
+            Some(place) => found.put(place, Row { id, weight, origin }),
+            None => {
+                *room = whole - found.count() as u64 - automaton.cells();
+                put_new(Row { id, weight, origin }, found, room)
             }
-            match place_of(rows, id) {
-                // The type has a row: it was in the lists, and no cell was missing.
-                Some(place) => replace_row(Row { id, weight, origin }, place, rows),
-                None => {
-                    *room = whole - rows.len() as u64 - automaton.cells();
-                    add_new_row(Row { id, weight, origin }, rows, room)
-                }
-            }
-        }
+        },
         Err(fault) => Err(fault_of(fault)),
     }
 }
 
-/// The candidates of one left row, with the numbers of their types added to a table. The room, the rows and the cells sum to
-/// `whole` throughout.
+/// The candidates of one left row. The room, the rows and the cells sum to `whole` throughout.
 fn add_pairs_with<A: Automaton>(
     alloc: Global,
     automaton: &mut A,
@@ -166,11 +178,11 @@ fn add_pairs_with<A: Automaton>(
     place: u32,
     right: &[Row],
     whole: u64,
-    rows: &mut Vec<Row>,
+    found: &mut Found,
     room: &mut u64,
-    table: &mut Vec<TypeId>,
 ) -> Result<(), LeastFault>
-    requires whole { whole ≡ room.old + length rows.old.items + list_cells (parts (A.shape automaton.old)) (A.lists automaton.old) }
+    requires whole { whole ≡ room.old + length (rows_of found.old) + list_cells (parts (A.shape automaton.old)) (A.lists automaton.old) }
+    requires whole_few { whole < 4294967296 }
     requires over { letters.IsOver (A.shape automaton.old) (A.field automaton.old) op.now.f }
     requires left { IsOperand (A.shape automaton.old) op.now.f op.now.op.t1 (A.lists automaton.old) left.now.id }
     requires left_light { nat_abs left.now.weight ≤ most_sum }
@@ -179,25 +191,27 @@ fn add_pairs_with<A: Automaton>(
     requires few { length right.now < 4294967296 }
     requires roomy { IsRoomy (A.shape automaton.old) (A.lists automaton.old) room.old }
     requires exact { IsExact (A.shape automaton.old) (A.lists automaton.old) }
-    requires within { AreWithin (A.shape automaton.old) (A.lists automaton.old) (shown rows.old.items) }
-    requires listed { AreIn (A.shape automaton.old) (A.lists automaton.old) table.old.items }
+    requires found { IsFound found.old }
+    requires within { AreWithin (A.shape automaton.old) (A.lists automaton.old) (shown (rows_of found.old)) }
+    requires listed { AreIn (A.shape automaton.old) (A.lists automaton.old) (names_of found.old) }
     ensures shape { A.shape automaton.new ≡ A.shape automaton.old }
     ensures field { A.field automaton.new ≡ A.field automaton.old }
     ensures marked { A.marked automaton.new ≡ A.marked automaton.old }
+    ensures found { OnOk result (IsFound found.new) }
     ensures passes { Passes (A.shape automaton.old) (A.lists automaton.old) (A.lists automaton.new)
         (pairs_with (join_type op.now.f (A.shape automaton.old) op.now.op)
         (type_at (A.shape automaton.old) (A.lists automaton.old) left.now.id, left.now.weight) place
         (typed (A.shape automaton.old) (A.lists automaton.old) (shown right.now)) 0)
-        rows.old.items rows.new.items room.old room.new result }
-    ensures told { OnOk result (Told (A.shape automaton.old) (A.lists automaton.old) (A.lists automaton.new) table.old.items
-        table.new.items (types_of (pairs_with (join_type op.now.f (A.shape automaton.old) op.now.op)
+        (rows_of found.old) (rows_of found.new) room.old room.new result }
+    ensures told { OnOk result (Told (A.shape automaton.old) (A.lists automaton.old) (A.lists automaton.new) (names_of found.old)
+        (names_of found.new) (types_of (pairs_with (join_type op.now.f (A.shape automaton.old) op.now.op)
         (type_at (A.shape automaton.old) (A.lists automaton.old) left.now.id, left.now.weight) place
         (typed (A.shape automaton.old) (A.lists automaton.old) (shown right.now)) 0))) }
 {
     for k in 0..right.len() {
         let origin = Origin::Pair(place, k as u32);
         match add_pair(
-            alloc, automaton, op, left, &right[k], origin, whole, rows, room, table,
+            alloc, automaton, op, left, &right[k], origin, whole, found, room,
         ) {
             Ok(()) => {}
             Err(fault) => return Err(fault),
@@ -206,7 +220,7 @@ fn add_pairs_with<A: Automaton>(
     Ok(())
 }
 
-/// The candidates of a join, with the numbers of their types added to a table. The room, the rows and the cells sum to `whole` throughout.
+/// The candidates of a join. The room, the rows and the cells sum to `whole` throughout.
 pub(crate) fn add_pairs<A: Automaton>(
     alloc: Global,
     automaton: &mut A,
@@ -214,11 +228,11 @@ pub(crate) fn add_pairs<A: Automaton>(
     left: &[Row],
     right: &[Row],
     whole: u64,
-    rows: &mut Vec<Row>,
+    found: &mut Found,
     room: &mut u64,
-    table: &mut Vec<TypeId>,
 ) -> Result<(), LeastFault>
-    requires whole { whole ≡ room.old + length rows.old.items + list_cells (parts (A.shape automaton.old)) (A.lists automaton.old) }
+    requires whole { whole ≡ room.old + length (rows_of found.old) + list_cells (parts (A.shape automaton.old)) (A.lists automaton.old) }
+    requires whole_few { whole < 4294967296 }
     requires over { letters.IsOver (A.shape automaton.old) (A.field automaton.old) op.now.f }
     requires left { AreOperands (A.shape automaton.old) op.now.f op.now.op.t1 (A.lists automaton.old) (shown left.now) }
     requires left_light { AreLight (shown left.now) }
@@ -228,24 +242,26 @@ pub(crate) fn add_pairs<A: Automaton>(
     requires few { length right.now < 4294967296 }
     requires roomy { IsRoomy (A.shape automaton.old) (A.lists automaton.old) room.old }
     requires exact { IsExact (A.shape automaton.old) (A.lists automaton.old) }
-    requires within { AreWithin (A.shape automaton.old) (A.lists automaton.old) (shown rows.old.items) }
-    requires listed { AreIn (A.shape automaton.old) (A.lists automaton.old) table.old.items }
+    requires found { IsFound found.old }
+    requires within { AreWithin (A.shape automaton.old) (A.lists automaton.old) (shown (rows_of found.old)) }
+    requires listed { AreIn (A.shape automaton.old) (A.lists automaton.old) (names_of found.old) }
     ensures shape { A.shape automaton.new ≡ A.shape automaton.old }
     ensures field { A.field automaton.new ≡ A.field automaton.old }
     ensures marked { A.marked automaton.new ≡ A.marked automaton.old }
+    ensures found { OnOk result (IsFound found.new) }
     ensures passes { Passes (A.shape automaton.old) (A.lists automaton.old) (A.lists automaton.new)
         (pairs_of (join_type op.now.f (A.shape automaton.old) op.now.op)
         (typed (A.shape automaton.old) (A.lists automaton.old) (shown left.now)) 0
         (typed (A.shape automaton.old) (A.lists automaton.old) (shown right.now)))
-        rows.old.items rows.new.items room.old room.new result }
-    ensures told { OnOk result (Told (A.shape automaton.old) (A.lists automaton.old) (A.lists automaton.new) table.old.items
-        table.new.items (types_of (pairs_of (join_type op.now.f (A.shape automaton.old) op.now.op)
+        (rows_of found.old) (rows_of found.new) room.old room.new result }
+    ensures told { OnOk result (Told (A.shape automaton.old) (A.lists automaton.old) (A.lists automaton.new) (names_of found.old)
+        (names_of found.new) (types_of (pairs_of (join_type op.now.f (A.shape automaton.old) op.now.op)
         (typed (A.shape automaton.old) (A.lists automaton.old) (shown left.now)) 0
         (typed (A.shape automaton.old) (A.lists automaton.old) (shown right.now))))) }
 {
     for k in 0..left.len() {
         match add_pairs_with(
-            alloc, automaton, op, &left[k], k as u32, right, whole, rows, room, table,
+            alloc, automaton, op, &left[k], k as u32, right, whole, found, room,
         ) {
             Ok(()) => {}
             Err(fault) => return Err(fault),

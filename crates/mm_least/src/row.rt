@@ -30,7 +30,7 @@ pub struct Row {
 }
 
 /// The place of the row of a type.
-pub(crate) fn place_of(rows: &[Row], id: TypeId) -> Option<usize>
+fn place_of(rows: &[Row], id: TypeId) -> Option<usize>
     ensures { IsPlaceIn rows.now id result }
 {
     for k in 0..rows.len() {
@@ -42,7 +42,7 @@ pub(crate) fn place_of(rows: &[Row], id: TypeId) -> Option<usize>
 }
 
 /// Puts a row last.
-pub(crate) fn push_row(row: Row, rows: &mut Vec<Row>) -> Result<(), LeastFault>
+fn push_row(row: Row, rows: &mut Vec<Row>) -> Result<(), LeastFault>
     ensures { Appends row rows.old.items rows.new.items result }
 {
     match rows.push(row) {
@@ -52,7 +52,7 @@ pub(crate) fn push_row(row: Row, rows: &mut Vec<Row>) -> Result<(), LeastFault>
 }
 
 /// Puts a row last, in place of the one of its type where it weighs less.
-pub(crate) fn replace_row(row: Row, place: usize, rows: &mut Vec<Row>) -> Result<(), LeastFault>
+fn replace_row(row: Row, place: usize, rows: &mut Vec<Row>) -> Result<(), LeastFault>
     requires { IsPlaceIn rows.old.items row.id (Some place) }
     ensures { Puts row rows.old.items rows.new.items result }
 {
@@ -76,7 +76,7 @@ pub(crate) fn add_row(row: Row, rows: &mut Vec<Row>, room: &mut u64) -> Result<(
 }
 
 /// Puts the row of another type last; it takes one of the room.
-pub(crate) fn add_new_row(row: Row, rows: &mut Vec<Row>, room: &mut u64) -> Result<(), LeastFault>
+fn add_new_row(row: Row, rows: &mut Vec<Row>, room: &mut u64) -> Result<(), LeastFault>
     requires { IsPlaceIn rows.old.items row.id None }
     ensures { AddsRow row rows.old.items rows.new.items room.old room.new result }
 {

@@ -1,7 +1,6 @@
 //! What an operator makes of the types of two children.
 
-ghost use Rattle.std.specs.Prelude.{◌≡◌, ◌<◌, length};
-ghost use Rattle.mm_least.specs.Transitions.{IsPlaceOf, ListsIds, PlacesOf};
+ghost use Rattle.mm_least.specs.Transitions.{IsPlaceOf, ListsIds};
 
 use crate::{LeastFault, Row};
 use mm_states::TypeId;
@@ -54,25 +53,4 @@ pub(crate) fn place_near(ids: &[TypeId], id: TypeId, guess: usize) -> Option<usi
         }
     }
     None
-}
-
-/// The places of the numbers of a table among others, if all are there.
-pub(crate) fn places_of(
-    alloc: Global,
-    ids: &[TypeId],
-    table: &[TypeId],
-) -> Result<Option<Vec<u32>>, LeastFault>
-    requires { length ids.now < 4294967296 }
-    ensures { PlacesOf ids.now table.now result }
-{
-    let mut places = Vec::new(alloc);
-    for k in 0..table.len() {
-        let Some(place) = place_near(ids, table[k], 0) else {
-            return Ok(None);
-        };
-        if places.push(place as u32).is_err() {
-            return Err(LeastFault::NoMemory);
-        }
-    }
-    Ok(Some(places))
 }

@@ -10,6 +10,7 @@ use Rattle.mm_least.specs.declared.row.Origin.TheVariants.{Out}
 use Rattle.mm_least.specs.Rows.{shown}
 use Rattle.mm_least.specs.Candidates.{types_of, typed, pairs_with}
 use Rattle.mm_least.specs.Transitions.{AreIn, Told}
+use Rattle.mm_least.specs.FoundTypes.{names_of, rows_of}
 use Rattle.mm_least.specs.Passes.{Passed, AreTooMany, AreOperands, most_sum}
 use Rattle.mm_least.proofs.WalkLemmas.{passed_none, told_none, still_exact, begins, fit_at, operand_stays, operands_stay, of_step, of_told, of_full}
 use Rattle.mm_least.proofs.pass.add_pairs.Goals as goal
@@ -18,11 +19,11 @@ abbrev none : Row
 none = record { id = 0; weight = pos 0; origin = Out }
 
 pub loop-k-init : goal.loop-k-init
-loop-k-init g c = (refl, refl, refl, passed_none _ _ c.args.rows.now.items c.args.room.now c.requires.exact c.requires.within, told_none _ _ c.args.table.now.items c.requires.listed)
+loop-k-init g c = (refl, refl, refl, passed_none _ _ (rows_of c.args.found.now) c.args.room.now c.requires.exact c.requires.within, told_none _ _ (names_of c.args.found.now) c.requires.listed, c.requires.found)
 
 pub add_pairs_with-requires-clause-whole : goal.add_pairs_with-requires-clause-whole
 add_pairs_with-requires-clause-whole g c =
-    subst (λ (G : Formula). c.args.whole ≡ c.loop-k.room + length c.loop-k.rows.items + list_cells (parts G) (g.A.Automaton.lists c.loop-k.automaton)) (sym c.loop-k.invariant.0)
+    subst (λ (G : Formula). c.args.whole ≡ c.loop-k.room + length (rows_of c.loop-k.found) + list_cells (parts G) (g.A.Automaton.lists c.loop-k.automaton)) (sym c.loop-k.invariant.0)
     (c.requires.whole ∙ sym c.loop-k.invariant.3.taken)
 
 pub add_pairs_with-requires-clause-left : goal.add_pairs_with-requires-clause-left
@@ -54,8 +55,8 @@ returns-in-Err-clause-passes g c = λ full.
     let left = c.args.left.now in
     let right = c.args.right.now in
     of_full (g.A.Automaton.shape c.args.automaton.now) op (g.A.Automaton.lists c.args.automaton.now) lists left right c.loop-k.k none c.loop-k-test.true c.requires.left c.requires.right
-    c.args.rows.now.items c.loop-k.rows.items c.loop-k.rows.items c.args.room.now c.loop-k.room c.loop-k.room c.loop-k.invariant.3
-    (subst (λ (G : Formula). AreTooMany G lists (pairs_with (join_type op.f G op.op) (type_at G lists (slice_index_or left c.loop-k.k none).id, (slice_index_or left c.loop-k.k none).weight) c.loop-k.k (typed G lists (shown right)) 0) c.loop-k.rows.items c.loop-k.room)
+    (rows_of c.args.found.now) (rows_of c.loop-k.found) (rows_of c.loop-k.found) c.args.room.now c.loop-k.room c.loop-k.room c.loop-k.invariant.3
+    (subst (λ (G : Formula). AreTooMany G lists (pairs_with (join_type op.f G op.op) (type_at G lists (slice_index_or left c.loop-k.k none).id, (slice_index_or left c.loop-k.k none).weight) c.loop-k.k (typed G lists (shown right)) 0) (rows_of c.loop-k.found) c.loop-k.room)
     c.loop-k.invariant.0 (c.in-Err.ensures.passes full))
 
 pub loop-k-preserved : goal.loop-k-preserved
@@ -69,15 +70,16 @@ loop-k-preserved g c =
       c.in-Ok.ensures.field ∙ c.loop-k.invariant.1,
       c.in-Ok.ensures.marked ∙ c.loop-k.invariant.2,
       of_step (g.A.Automaton.shape c.args.automaton.now) op (g.A.Automaton.lists c.args.automaton.now) lists left right c.loop-k.k none c.loop-k-test.true c.requires.left c.requires.right
-          c.args.rows.now.items c.loop-k.rows.items c.add_pairs_with.new.rows.items c.args.room.now c.loop-k.room c.add_pairs_with.new.room c.loop-k.invariant.3 nows
-          (subst (λ (G : Formula). Passed G lists nows (pairs_with (join_type op.f G op.op) (type_at G lists (slice_index_or left c.loop-k.k none).id, (slice_index_or left c.loop-k.k none).weight) c.loop-k.k (typed G lists (shown right)) 0) c.loop-k.rows.items c.add_pairs_with.new.rows.items c.loop-k.room c.add_pairs_with.new.room)
+          (rows_of c.args.found.now) (rows_of c.loop-k.found) (rows_of c.add_pairs_with.new.found) c.args.room.now c.loop-k.room c.add_pairs_with.new.room c.loop-k.invariant.3 nows
+          (subst (λ (G : Formula). Passed G lists nows (pairs_with (join_type op.f G op.op) (type_at G lists (slice_index_or left c.loop-k.k none).id, (slice_index_or left c.loop-k.k none).weight) c.loop-k.k (typed G lists (shown right)) 0) (rows_of c.loop-k.found) (rows_of c.add_pairs_with.new.found) c.loop-k.room c.add_pairs_with.new.room)
           c.loop-k.invariant.0 c.in-Ok.ensures.passes),
       of_told (g.A.Automaton.shape c.args.automaton.now) op (g.A.Automaton.lists c.args.automaton.now) lists left right c.loop-k.k none c.loop-k-test.true c.requires.left c.requires.right
-          c.args.rows.now.items c.loop-k.rows.items c.add_pairs_with.new.rows.items c.args.room.now c.loop-k.room c.add_pairs_with.new.room c.loop-k.invariant.3 nows c.args.table.now.items c.loop-k.table.items c.add_pairs_with.new.table.items c.loop-k.invariant.4
-          (subst (λ (G : Formula). Told G lists nows c.loop-k.table.items c.add_pairs_with.new.table.items (types_of (pairs_with (join_type op.f G op.op) (type_at G lists (slice_index_or left c.loop-k.k none).id, (slice_index_or left c.loop-k.k none).weight) c.loop-k.k (typed G lists (shown right)) 0)))
+          (rows_of c.args.found.now) (rows_of c.loop-k.found) (rows_of c.add_pairs_with.new.found) c.args.room.now c.loop-k.room c.add_pairs_with.new.room c.loop-k.invariant.3 nows (names_of c.args.found.now) (names_of c.loop-k.found) (names_of c.add_pairs_with.new.found) c.loop-k.invariant.4
+          (subst (λ (G : Formula). Told G lists nows (names_of c.loop-k.found) (names_of c.add_pairs_with.new.found) (types_of (pairs_with (join_type op.f G op.op) (type_at G lists (slice_index_or left c.loop-k.k none).id, (slice_index_or left c.loop-k.k none).weight) c.loop-k.k (typed G lists (shown right)) 0)))
           c.loop-k.invariant.0 c.in-Ok.ensures.told),
+      c.in-Ok.ensures.found,
     )
 
 pub add_pairs_with-requires-clause-listed : goal.add_pairs_with-requires-clause-listed
 add_pairs_with-requires-clause-listed g c =
-    subst (λ (G : Formula). AreIn G (g.A.Automaton.lists c.loop-k.automaton) c.loop-k.table.items) (sym c.loop-k.invariant.0) c.loop-k.invariant.4.within
+    subst (λ (G : Formula). AreIn G (g.A.Automaton.lists c.loop-k.automaton) (names_of c.loop-k.found)) (sym c.loop-k.invariant.0) c.loop-k.invariant.4.within

@@ -4,6 +4,7 @@ use Rattle.mm_least.specs.Rows.{shown}
 use Rattle.mm_least.specs.Candidates.{typed, types_of, pairs_of}
 use Rattle.mm_least.specs.Passes.{Passed}
 use Rattle.mm_least.specs.Transitions.{Told}
+use Rattle.mm_least.specs.FoundTypes.{IsFound, names_of, rows_of}
 use Rattle.mm_least.proofs.pass.add_pairs.Given as goal
 
 abbrev pub invariant-loop-k : goal.invariant-loop-k
@@ -12,7 +13,8 @@ invariant-loop-k g l =
     × (g.A.Automaton.marked l.automaton ≡ g.A.Automaton.marked l.fn.automaton)
     × Passed (g.A.Automaton.shape l.fn.automaton) (g.A.Automaton.lists l.fn.automaton) (g.A.Automaton.lists l.automaton)
     (pairs_of (join_type l.fn.op.f (g.A.Automaton.shape l.fn.automaton) l.fn.op.op) (typed (g.A.Automaton.shape l.fn.automaton) (g.A.Automaton.lists l.fn.automaton) (shown (take l.k l.fn.left))) 0
-    (typed (g.A.Automaton.shape l.fn.automaton) (g.A.Automaton.lists l.fn.automaton) (shown l.fn.right))) l.fn.rows.items l.rows.items l.fn.room l.room
-    × Told (g.A.Automaton.shape l.fn.automaton) (g.A.Automaton.lists l.fn.automaton) (g.A.Automaton.lists l.automaton) l.fn.table.items l.table.items
+    (typed (g.A.Automaton.shape l.fn.automaton) (g.A.Automaton.lists l.fn.automaton) (shown l.fn.right))) (rows_of l.fn.found) (rows_of l.found) l.fn.room l.room
+    × Told (g.A.Automaton.shape l.fn.automaton) (g.A.Automaton.lists l.fn.automaton) (g.A.Automaton.lists l.automaton) (names_of l.fn.found) (names_of l.found)
     (types_of (pairs_of (join_type l.fn.op.f (g.A.Automaton.shape l.fn.automaton) l.fn.op.op) (typed (g.A.Automaton.shape l.fn.automaton) (g.A.Automaton.lists l.fn.automaton) (shown (take l.k l.fn.left))) 0
     (typed (g.A.Automaton.shape l.fn.automaton) (g.A.Automaton.lists l.fn.automaton) (shown l.fn.right))))
+    × IsFound l.found

@@ -8,6 +8,7 @@ use Rattle.mm_least.specs.declared.row.Row.{Row}
 use Rattle.mm_least.specs.declared.row.Origin.TheVariants.{Out, Pair}
 use Rattle.mm_least.specs.Candidates.{types_of, candidate}
 use Rattle.mm_least.specs.Transitions.{AreIn, Told}
+use Rattle.mm_least.specs.FoundTypes.{names_of, rows_of}
 use Rattle.mm_least.specs.Passes.{Passed, AreTooMany, most_sum}
 use Rattle.mm_least.proofs.WalkLemmas.{passed_none, told_none, still_exact, begins, still_roomy, fit_at, operand_stays, with_step, with_told, with_full}
 use Rattle.mm_least.proofs.pass.add_pairs_with.Goals as goal
@@ -16,11 +17,11 @@ abbrev none : Row
 none = record { id = 0; weight = pos 0; origin = Out }
 
 pub loop-k-init : goal.loop-k-init
-loop-k-init g c = (refl, refl, refl, passed_none _ _ c.args.rows.now.items c.args.room.now c.requires.exact c.requires.within, told_none _ _ c.args.table.now.items c.requires.listed)
+loop-k-init g c = (refl, refl, refl, passed_none _ _ (rows_of c.args.found.now) c.args.room.now c.requires.exact c.requires.within, told_none _ _ (names_of c.args.found.now) c.requires.listed, c.requires.found)
 
 pub add_pair-requires-clause-whole : goal.add_pair-requires-clause-whole
 add_pair-requires-clause-whole g c =
-    subst (λ (G : Formula). c.args.whole ≡ c.loop-k.room + length c.loop-k.rows.items + list_cells (parts G) (g.A.Automaton.lists c.loop-k.automaton)) (sym c.loop-k.invariant.0)
+    subst (λ (G : Formula). c.args.whole ≡ c.loop-k.room + length (rows_of c.loop-k.found) + list_cells (parts G) (g.A.Automaton.lists c.loop-k.automaton)) (sym c.loop-k.invariant.0)
     (c.requires.whole ∙ sym c.loop-k.invariant.3.taken)
 
 pub add_pair-requires-clause-can : goal.add_pair-requires-clause-can
@@ -55,8 +56,8 @@ returns-in-Err-clause-passes g c = λ full.
     let left = c.args.left.now in
     let right = c.args.right.now in
     with_full F op olds lists left c.args.place right c.loop-k.k none c.loop-k-test.true c.requires.left.within c.requires.right
-    c.args.rows.now.items c.loop-k.rows.items c.loop-k.rows.items c.args.room.now c.loop-k.room c.loop-k.room c.loop-k.invariant.3
-    (subst (λ (G : Formula). AreTooMany G lists (candidate (value_of_join G lists op left.id (slice_index_or right c.loop-k.k none).id) (left.weight +ℤ (slice_index_or right c.loop-k.k none).weight) (Pair c.args.place c.loop-k.k) ∷ []) c.loop-k.rows.items c.loop-k.room)
+    (rows_of c.args.found.now) (rows_of c.loop-k.found) (rows_of c.loop-k.found) c.args.room.now c.loop-k.room c.loop-k.room c.loop-k.invariant.3
+    (subst (λ (G : Formula). AreTooMany G lists (candidate (value_of_join G lists op left.id (slice_index_or right c.loop-k.k none).id) (left.weight +ℤ (slice_index_or right c.loop-k.k none).weight) (Pair c.args.place c.loop-k.k) ∷ []) (rows_of c.loop-k.found) c.loop-k.room)
     c.loop-k.invariant.0 (c.in-Err.ensures.passes full))
 
 pub loop-k-preserved : goal.loop-k-preserved
@@ -72,15 +73,16 @@ loop-k-preserved g c =
       c.in-Ok.ensures.field ∙ c.loop-k.invariant.1,
       c.in-Ok.ensures.marked ∙ c.loop-k.invariant.2,
       with_step F op olds lists left c.args.place right c.loop-k.k none c.loop-k-test.true c.requires.left.within c.requires.right
-          c.args.rows.now.items c.loop-k.rows.items c.add_pair.new.rows.items c.args.room.now c.loop-k.room c.add_pair.new.room c.loop-k.invariant.3 nows
-          (subst (λ (G : Formula). Passed G lists nows (candidate (value_of_join G lists op left.id (slice_index_or right c.loop-k.k none).id) (left.weight +ℤ (slice_index_or right c.loop-k.k none).weight) (Pair c.args.place c.loop-k.k) ∷ []) c.loop-k.rows.items c.add_pair.new.rows.items c.loop-k.room c.add_pair.new.room)
+          (rows_of c.args.found.now) (rows_of c.loop-k.found) (rows_of c.add_pair.new.found) c.args.room.now c.loop-k.room c.add_pair.new.room c.loop-k.invariant.3 nows
+          (subst (λ (G : Formula). Passed G lists nows (candidate (value_of_join G lists op left.id (slice_index_or right c.loop-k.k none).id) (left.weight +ℤ (slice_index_or right c.loop-k.k none).weight) (Pair c.args.place c.loop-k.k) ∷ []) (rows_of c.loop-k.found) (rows_of c.add_pair.new.found) c.loop-k.room c.add_pair.new.room)
           c.loop-k.invariant.0 c.in-Ok.ensures.passes),
       with_told F op olds lists left c.args.place right c.loop-k.k none c.loop-k-test.true c.requires.left.within c.requires.right
-          c.args.rows.now.items c.loop-k.rows.items c.add_pair.new.rows.items c.args.room.now c.loop-k.room c.add_pair.new.room c.loop-k.invariant.3 nows c.args.table.now.items c.loop-k.table.items c.add_pair.new.table.items c.loop-k.invariant.4
-          (subst (λ (G : Formula). Told G lists nows c.loop-k.table.items c.add_pair.new.table.items (types_of (candidate (value_of_join G lists op left.id (slice_index_or right c.loop-k.k none).id) (left.weight +ℤ (slice_index_or right c.loop-k.k none).weight) (Pair c.args.place c.loop-k.k) ∷ [])))
+          (rows_of c.args.found.now) (rows_of c.loop-k.found) (rows_of c.add_pair.new.found) c.args.room.now c.loop-k.room c.add_pair.new.room c.loop-k.invariant.3 nows (names_of c.args.found.now) (names_of c.loop-k.found) (names_of c.add_pair.new.found) c.loop-k.invariant.4
+          (subst (λ (G : Formula). Told G lists nows (names_of c.loop-k.found) (names_of c.add_pair.new.found) (types_of (candidate (value_of_join G lists op left.id (slice_index_or right c.loop-k.k none).id) (left.weight +ℤ (slice_index_or right c.loop-k.k none).weight) (Pair c.args.place c.loop-k.k) ∷ [])))
           c.loop-k.invariant.0 c.in-Ok.ensures.told),
+      c.in-Ok.ensures.found,
     )
 
 pub add_pair-requires-clause-listed : goal.add_pair-requires-clause-listed
 add_pair-requires-clause-listed g c =
-    subst (λ (G : Formula). AreIn G (g.A.Automaton.lists c.loop-k.automaton) c.loop-k.table.items) (sym c.loop-k.invariant.0) c.loop-k.invariant.4.within
+    subst (λ (G : Formula). AreIn G (g.A.Automaton.lists c.loop-k.automaton) (names_of c.loop-k.found)) (sym c.loop-k.invariant.0) c.loop-k.invariant.4.within
