@@ -45,7 +45,7 @@ entries_back (Runs R) = refl
 entries_back (Rows R) = refl
 
 abbrev no_rows : NodeValue
-no_rows = record { name = None; rows = []; known = None }
+no_rows = record { name = None; rows = []; known = None; nothing = None }
 
 abbrev entries_code : Coded Entries
 entries_code =

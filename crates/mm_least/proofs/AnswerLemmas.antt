@@ -25,6 +25,7 @@ use Rattle.mm_least.specs.declared.row.Row.{Row}
 use Rattle.mm_least.specs.declared.row.Origin.{Origin}
 use Rattle.mm_least.specs.declared.row.Origin.TheVariants.{Out, Taken, Pair}
 use Rattle.mm_least.specs.NodeRowsValue.{NodeValue}
+use Rattle.mm_least.specs.EmptySets.{ComesAt, ComesFromBoth}
 use Rattle.mm_least.specs.Rows.{shown}
 use Rattle.mm_least.specs.Candidates.{Candidate, candidate, typed, pairs_with, pairs_of}
 use Rattle.mm_least.specs.RowLaws.{append_fits, put_all_fits}
@@ -51,7 +52,9 @@ count_typed F lists [] = refl
 count_typed F lists (r ∷ rows) = ap suc (count_typed F lists rows)
 
 pub linked : (f : Field) (F : Formula) (lists : List (List Value)) (T : Tree) (R : KeptTree NodeValue) → StandFor f F lists T R → AreLinked R
-linked f F lists T (One n) s = tt
+linked f F lists (Elem name vec w) (One n) s = s.nothing
+linked f F lists (Void name t) (One n) s = s.nothing
+linked f F lists (Join name op l r) (One n) s = absurd s
 linked f F lists (Join name op l r) (Two n a b) s =
     let ps = typed F lists (shown (top a).rows) in
     let qs = typed F lists (shown (top b).rows) in
@@ -64,6 +67,7 @@ linked f F lists (Join name op l r) (Two n a b) s =
           (pairs_linked (join_type f F op) (length (top a).rows) (length (top b).rows) 0 ps qs (omega (arith, one)) (omega (arith, two))) tt)),
       linked f F lists l a s.1,
       linked f F lists r b s.2,
+      s.0.nothing,
     )
 linked f F lists (Elem name vec w) (Two n a b) s = absurd s
 linked f F lists (Void name t) (Two n a b) s = absurd s
@@ -249,3 +253,41 @@ first_sets_of_rows f F lists T R s =
       sym (map-map (λ (p : Value × ℤ). p.1) (shows (weights T) (type_of_set f F T)) (sets_of R)) ∙ ap (map (λ (p : Value × ℤ). p.1)) (sym h.shown_as) ∙ typed_weights F lists (top R).rows,
       h.ascending,
     )
+
+-- ---- empty sets
+
+name_out : (name : Option (List ℕ)) → name_at_leaf name Out ≡ []
+name_out None = refl
+name_out (Some name) = refl
+
+row_fits : (P : Row → Type 0) (rows : List Row) (p : ℕ) (d : Row) → AllFit P rows → p < length rows → P (get_or rows p d)
+row_fits P [] p d h l = absurd (omega (arith, l))
+row_fits P (r ∷ rows) zero d h l = h.0
+row_fits P (r ∷ rows) (suc p) d h l = row_fits P rows p d h.1 (omega (arith, l))
+
+both_none : (xs ys : List (List ℕ)) → xs ≡ [] → ys ≡ [] → xs ++ ys ≡ []
+both_none xs ys e f = (λ i. e i ++ f i)
+
+-- no name is in a set that is known to be empty
+pub empty_names : (R : KeptTree NodeValue) → AreLinked R → (p : ℕ) → p < length (top R).rows → (top R).nothing ≡ Some p → get_or (names_of R) p [] ≡ []
+empty_names (One n) h p l e =
+    get_or-map (λ (r : Row). name_at_leaf n.name r.origin) n.rows p a_row [] l
+    ∙ ap (name_at_leaf n.name) (subst (ComesAt n.rows Out) e h a_row) ∙ name_out n.name
+empty_names (Two n a b) h p l e =
+    get_or-map (λ (r : Row). of_origin (names_of a) (names_of b) r.origin) n.rows p a_row [] l
+    ∙ by (top a).nothing (top b).nothing refl refl (subst (ComesFromBoth (top a).nothing (top b).nothing n.rows) e h.3)
+    (λ i k f. empty_names a h.1 i k f) (λ j k f. empty_names b h.2 j k f)
+  where
+    by : (left right : Option ℕ) → (top a).nothing ≡ left → (top b).nothing ≡ right → ComesFromBoth left right n.rows (Some p)
+        → ((i : ℕ) → i < length (top a).rows → (top a).nothing ≡ Some i → get_or (names_of a) i [] ≡ []) → ((j : ℕ) → j < length (top b).rows → (top b).nothing ≡ Some j → get_or (names_of b) j [] ≡ [])
+        → of_origin (names_of a) (names_of b) (get_or n.rows p a_row).origin ≡ []
+    by (Some i) (Some j) f g k of_left of_right =
+        let inside = subst (ComesFrom (length (top a).rows) (length (top b).rows)) (k a_row) (row_fits (λ r. ComesFrom (length (top a).rows) (length (top b).rows) r.origin) n.rows p a_row h.0 l) in
+        ap (of_origin (names_of a) (names_of b)) (k a_row)
+        ∙ both_none (get_or (names_of a) i []) (get_or (names_of b) j []) (of_left i inside.0 f) (of_right j inside.1 g)
+    by (Some i) None f g k of_left of_right = cc
+    by None right f g k of_left of_right = cc
+
+pub nothing_added : (names more : List (List ℕ)) → more ≡ [] → names ≡ names ++ more
+nothing_added [] more e = sym e
+nothing_added (n ∷ names) more e = ap (λ ns. n ∷ ns) (nothing_added names more e)

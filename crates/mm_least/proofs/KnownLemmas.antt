@@ -29,6 +29,7 @@ use Rattle.mm_least.specs.declared.log.Entry.{Entry}
 use Rattle.mm_least.specs.Logs.{AreApart, IsLog, Offered, standing}
 use Rattle.mm_least.specs.KnownRows.{AreBelow, Reads, PutsAll, LogsKnown, RowsKnown}
 use Rattle.mm_least.specs.NodeRowsValue.{NodeValue}
+use Rattle.mm_least.specs.EmptySets.{ComesFromBoth}
 use Rattle.mm_least.specs.RowCalls.{CanBeJoined, IsJoinRows, MadeRows, MakesRows, IsNodeAgain, row_types}
 use Rattle.mm_least.specs.RowLaws.{join_has}
 use Rattle.mm_least.proofs.PassLemmas.{places_tell, put_held, put_below, tells_apart}
@@ -220,7 +221,7 @@ module _ (F : Formula) (op : OpValue) (lists : List (List Value)) (t : Transitio
     done : (held_by (type_at F lists) rows ≡ put_all (pairs_of (join_type op.f F op.op) (typed F lists (shown a.rows)) 0 (typed F lists (shown b.rows))) []) × AreBelow (length (root F lists)) rows
     done = puts (type_at F lists) (join_type op.f F op.op) (length (root F lists)) reads tt
 
-    module _ (n : NodeValue) (e : n.rows ≡ rows) (k : n.known ≡ Some t) where
+    module _ (n : NodeValue) (e : n.rows ≡ rows) (k : n.known ≡ Some t) (nothing : ComesFromBoth a.nothing b.nothing rows n.nothing) where
       is : IsJoinRows fr op.op a b n
       is = record {
         left_within = operands_within F op.f op.op.t1 lists (shown a.rows) ca.operands;
@@ -228,6 +229,7 @@ module _ (F : Formula) (op : OpValue) (lists : List (List Value)) (t : Transitio
         within = subst (AreBelow (length (root F lists))) (sym e) done.1;
         rows = ap (held_by (type_at F lists)) e ∙ done.0;
         known = subst (IsKnown fr op.op) (sym k) h;
+        nothing = subst (λ (rs : List Row). ComesFromBoth a.nothing b.nothing rs n.nothing) (sym e) nothing;
       }
 
       grown : AllGrown lists lists (occurring F vs)
@@ -251,9 +253,14 @@ module _ (F : Formula) (op : OpValue) (lists : List (List Value)) (t : Transitio
           let long = ap length e in
           omega (arith, l, long, many)
 
-    pub made_again : (room : ℕ) (result : Result NodeValue KeepFault) → IsNodeAgain rows t room result → MakesRows F lists lists (IsJoinRows fr op.op a b) vs room result
-    made_again room (Ok n) is = known_made n is.0 is.1 room is.2
-    made_again room (Err e) is = λ full. known_full (record { name = None; rows = rows; known = Some t }) refl refl room (is full)
+    none_both : (left right : Option ℕ) → ComesFromBoth left right rows None
+    none_both (Some i) (Some j) = tt
+    none_both (Some i) None = refl
+    none_both None right = refl
+
+    pub made_again : (room : ℕ) (result : Result NodeValue KeepFault) → IsNodeAgain rows t a.nothing b.nothing room result → MakesRows F lists lists (IsJoinRows fr op.op a b) vs room result
+    made_again room (Ok n) is = known_made n is.0 is.1 is.3 room is.2
+    made_again room (Err e) is = λ full. known_full (record { name = None; rows = rows; known = Some t; nothing = None }) refl refl (none_both a.nothing b.nothing) room (is full)
 
 pub puts_at : (t : TransitionValue) (cs : (ℕ → Value) → (Value → Value → Value) → List (Candidate Origin)) (result : Result (Option (Vec Row Global)) KeepFault) (found : Option (Vec Row Global)) (rows : Vec Row Global)
     → result ≡ Ok found → found ≡ Some rows → RowsKnown t cs result → PutsAll t cs [] rows.items

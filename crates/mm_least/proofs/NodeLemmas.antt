@@ -35,6 +35,7 @@ use Rattle.mm_least.specs.Rows.{shown}
 use Rattle.mm_least.specs.Candidates.{Candidate, candidate, put_all, types_of, held, typed, leaf_candidates, pairs_of}
 use Rattle.mm_least.specs.BestLaws.{Different, best-count}
 use Rattle.mm_least.specs.Passes.{AreWithin, Passed, AreTooMany, Passes, AreOperands}
+use Rattle.mm_least.specs.EmptySets.{ComesFromBoth}
 use Rattle.mm_least.specs.RowCalls.{IsLeaf, IsJoinRows, MadeRows, MakesRows, IsNodeOf, row_types}
 use Rattle.mm_least.specs.RowLaws.{within-stays, held-stays, of-types}
 use Rattle.mm_least.specs.declared.found.Found.{Found}
@@ -172,8 +173,8 @@ module _ (F : Formula) (op : OpValue) (olds nows : List (List Value)) (a b n : N
   grows : AllBegin olds nows
   grows = AllBegin-grown olds nows _ p.grown
 
-  pub joins_rows : IsKnown (record { f = op.f; F = F; lists = nows }) op.op n.known → IsJoinRows (record { f = op.f; F = F; lists = nows }) op.op a b n
-  joins_rows known = record {
+  pub joins_rows : IsKnown (record { f = op.f; F = F; lists = nows }) op.op n.known → ComesFromBoth a.nothing b.nothing n.rows n.nothing → IsJoinRows (record { f = op.f; F = F; lists = nows }) op.op a b n
+  joins_rows known nothing = record {
     left_within = within-stays F olds nows (shown a.rows) grows (operands_within F op.f op.op.t1 olds (shown a.rows) ao);
     right_within = within-stays F olds nows (shown b.rows) grows (operands_within F op.f op.op.t2 olds (shown b.rows) bo);
     within = p.within;
@@ -181,6 +182,7 @@ module _ (F : Formula) (op : OpValue) (olds nows : List (List Value)) (a b n : N
         p.best
         ∙ (λ i. put_all (pairs_of (join_type op.f F op.op) (sym (typed_stays F op.f op.op.t1 olds nows (shown a.rows) grows ao) i) 0 (sym (typed_stays F op.f op.op.t2 olds nows (shown b.rows) grows bo) i)) []);
     known = known;
+    nothing = nothing;
   }
 
   types_now : (rows : List Row) → AreWithin F olds (shown rows) → types_of (held F olds rows) ≡ map (type_at F nows) (map (λ r. r.id) rows)
@@ -209,24 +211,25 @@ module _ (F : Formula) (op : OpValue) (olds nows : List (List Value)) (a b n : N
               ∙ (λ i. all_pairs (join_type op.f F op.op) ((types_now a.rows aw ∙ ap (map (type_at F nows)) (sym is.left)) i) ((types_now b.rows bw ∙ ap (map (type_at F nows)) (sym is.right)) i));
         }
 
-    pub made_node : IsTableOf a.rows b.rows ids table n.known
+    pub made_node : IsTableOf a.rows b.rows ids table n.known → ComesFromBoth a.nothing b.nothing n.rows n.nothing
         → MadeRows F olds nows (IsJoinRows (record { f = op.f; F = F; lists = nows }) op.op a b)
         (all_pairs (join_type op.f F op.op) (row_types (record { f = op.f; F = F; lists = olds }) a) (row_types (record { f = op.f; F = F; lists = olds }) b)) room n
-    made_node is =
+    made_node is nothing =
         made_rows F olds nows (pairs_of (join_type op.f F op.op) (typed F olds (shown a.rows)) 0 (typed F olds (shown b.rows))) _ (of-types F olds (join_type op.f F op.op) a.rows b.rows 0) room
-        (IsJoinRows (record { f = op.f; F = F; lists = nows }) op.op a b) n rest (joins_rows (node_known n.known is)) p
+        (IsJoinRows (record { f = op.f; F = F; lists = nows }) op.op a b) n rest (joins_rows (node_known n.known is) nothing) p
 
 -- a node that is made, or want of memory
 pub node_made : (F : Formula) (op : OpValue) (olds nows : List (List Value)) (a b : NodeValue) → AreOperands F op.f op.op.t1 olds (shown a.rows) → AreOperands F op.f op.op.t2 olds (shown b.rows) → IsExact F olds
     → (found : Found) → IsFound found → (room rest : ℕ) → Passed F olds nows (pairs_of (join_type op.f F op.op) (typed F olds (shown a.rows)) 0 (typed F olds (shown b.rows))) [] (rows_of found) room rest
     → Told F olds nows [] (names_of found) (types_of (pairs_of (join_type op.f F op.op) (typed F olds (shown a.rows)) 0 (typed F olds (shown b.rows))))
-    → (result : Result NodeValue KeepFault) → IsNodeOf (rows_of found) a.rows b.rows found.ids.items found.table.items result
+    → (result : Result NodeValue KeepFault) → IsNodeOf (rows_of found) a.rows b.rows a.nothing b.nothing found.ids.items found.table.items result
     → MakesRows F olds nows (IsJoinRows (record { f = op.f; F = F; lists = nows }) op.op a b)
     (all_pairs (join_type op.f F op.op) (row_types (record { f = op.f; F = F; lists = olds }) a) (row_types (record { f = op.f; F = F; lists = olds }) b)) room result
 node_made F op olds nows a b ao bo exact found h room rest p told (Ok n) is =
     made_node F op olds nows a b n ao bo room rest
     (subst (λ (rs : List Row). Passed F olds nows (pairs_of (join_type op.f F op.op) (typed F olds (shown a.rows)) 0 (typed F olds (shown b.rows))) [] rs room rest) (sym is.0) p)
     exact found.ids.items found.table.items h.apart h.tabled h.occur told is.1
+    (subst (λ (rs : List Row). ComesFromBoth a.nothing b.nothing rs n.nothing) (sym is.0) is.2)
 node_made F op olds nows a b ao bo exact found h room rest p told (Err e) is = λ full. absurd (not_both e is full)
   where
     not_both : (f : KeepFault) → f ≡ NoMemory → f ≡ Full → ⊥

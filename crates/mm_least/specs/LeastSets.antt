@@ -19,6 +19,7 @@ use Rattle.mm_least.specs.declared.row.Row.{Row}
 use Rattle.mm_least.specs.declared.row.Origin.{Origin}
 use Rattle.mm_least.specs.declared.row.Origin.TheVariants.{Out, Taken, Pair}
 use Rattle.mm_least.specs.NodeRowsValue.{NodeValue}
+use Rattle.mm_least.specs.EmptySets.{ComesAt, ComesFromBoth}
 use Rattle.mm_least.specs.LeastCalls.{StandFor}
 
 -- ---- what is sought
@@ -102,10 +103,12 @@ ComesFrom left right (Pair i j) = (i < left) × (j < right)
 ComesFrom left right Out = Unit {0}
 ComesFrom left right Taken = Unit {0}
 
--- each row comes from rows that are there
+-- each row comes from rows that are there, and what is known of an empty set is so
 abbrev pub AreLinked : KeptTree NodeValue → Type 0
-AreLinked (One n) = Unit {0}
-AreLinked (Two n a b) = AllFit (λ r. ComesFrom (length (top a).rows) (length (top b).rows) r.origin) n.rows × AreLinked a × AreLinked b
+AreLinked (One n) = ComesAt n.rows Out n.nothing
+AreLinked (Two n a b) =
+    AllFit (λ r. ComesFrom (length (top a).rows) (length (top b).rows) r.origin) n.rows × AreLinked a × AreLinked b
+    × ComesFromBoth (top a).nothing (top b).nothing n.rows n.nothing
 
 -- whether the type of a row is accepted
 abbrev pub is_accepted : Formula → List (List Value) → Row → Bool

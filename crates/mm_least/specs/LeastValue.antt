@@ -21,7 +21,7 @@ pub record LeastValue (A : Type 0) : Type 0 where
   pub rows : KeptTree NodeValue
 
 abbrev no_rows : NodeValue
-no_rows = record { name = None; rows = []; known = None }
+no_rows = record { name = None; rows = []; known = None; nothing = None }
 
 abbrev pub least_code : {A : Type 0} → Coded A → Coded (LeastValue A)
 least_code {A} code =

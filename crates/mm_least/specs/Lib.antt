@@ -6,6 +6,7 @@ pub mod Transitions
 pub mod Logs
 pub mod FoundTypes
 pub mod KnownRows
+pub mod EmptySets
 pub mod NodeRowsValue
 pub mod RowCalls
 pub mod RowLaws

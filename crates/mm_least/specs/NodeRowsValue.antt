@@ -8,11 +8,13 @@ use Rattle.mm_least.specs.declared.row.Row.{Row}
 use Rattle.mm_least.specs.declared.row.Origin.{Origin}
 use Rattle.mm_least.specs.declared.row.Origin.TheVariants.{Out, Taken, Pair}
 
--- The name of the element of a leaf, a row for each type, and what is known of the operator of a join.
+-- The name of the element of a leaf, a row for each type, what is known of the operator of a join, and the place of a row whose set is
+-- empty, where one is known.
 pub record NodeValue : Type 0 where
   pub name : Option (List ℕ)
   pub rows : List Row
   pub known : Option TransitionValue
+  pub nothing : Option ℕ
 
 -- how proofs tell rows apart
 abbrev places : Origin → Unit {0} ⊎ (Unit {0} ⊎ (ℕ × ℕ))
@@ -38,5 +40,5 @@ row_code = code_by (ℕ × (ℤ × Origin)) (coded× coded_ℕ (coded× coded_�
 
 abbrev pub node_code : Coded NodeValue
 node_code =
-    code_by (Option (List ℕ) × (List Row × Option TransitionValue)) (coded× (coded_option (coded_list coded_ℕ)) (coded× (coded_list row_code) (coded_option transition_code))) (λ n. (n.name, (n.rows, n.known)))
-    (λ p. record { name = p.0; rows = p.1.0; known = p.1.1 }) (λ _. refl)
+    code_by (Option (List ℕ) × (List Row × (Option TransitionValue × Option ℕ))) (coded× (coded_option (coded_list coded_ℕ)) (coded× (coded_list row_code) (coded× (coded_option transition_code) (coded_option coded_ℕ))))
+    (λ n. (n.name, (n.rows, (n.known, n.nothing)))) (λ p. record { name = p.0; rows = p.1.0; known = p.1.1.0; nothing = p.1.1.1 }) (λ _. refl)

@@ -14,6 +14,8 @@ use Rattle.mm_nodes.specs.declared.keeps.KeepFault.TheVariants.{Full, NoMemory}
 use Rattle.mm_least.specs.Transitions.{TransitionValue, IsKnown, IsTableOf}
 use Rattle.mm_least.specs.NodeRowsValue.{NodeValue}
 use Rattle.mm_least.specs.declared.row.Row.{Row}
+use Rattle.mm_least.specs.declared.row.Origin.TheVariants.{Out}
+use Rattle.mm_least.specs.EmptySets.{ComesAt, ComesFromBoth}
 use Rattle.mm_least.specs.Rows.{shown}
 use Rattle.mm_least.specs.Candidates.{put_all, held, typed, types_of, leaf_candidates, pairs_of}
 use Rattle.mm_least.specs.Passes.{AreWithin, AreOperands, AreLight}
@@ -36,6 +38,7 @@ pub record IsLeafRows (fr : Frame) (T : Tree) (n : NodeValue) : Type 0 where
   pub name : n.name ≡ element_name T
   pub within : AreWithin fr.F fr.lists (shown n.rows)
   pub rows : held fr.F fr.lists n.rows ≡ put_all (leaf_candidates fr.f fr.F T) []
+  pub nothing : ComesAt n.rows Out n.nothing
 
 -- The rows are the best of what a join offers: each row of the left child with each of the right one; and what is known is of its operator.
 pub record IsJoinRows (fr : Frame) (op : Op) (a b n : NodeValue) : Type 0 where
@@ -44,6 +47,7 @@ pub record IsJoinRows (fr : Frame) (op : Op) (a b n : NodeValue) : Type 0 where
   pub within : AreWithin fr.F fr.lists (shown n.rows)
   pub rows : held fr.F fr.lists n.rows ≡ put_all (pairs_of (join_type fr.f fr.F op) (typed fr.F fr.lists (shown a.rows)) 0 (typed fr.F fr.lists (shown b.rows))) []
   pub known : IsKnown fr op n.known
+  pub nothing : ComesFromBoth a.nothing b.nothing n.rows n.nothing
 
 -- what is known, if anything, is of the operator
 abbrev pub KnowsJoins : Frame → Op → NodeValue → Type 0
@@ -71,11 +75,13 @@ MakesRows F olds nows Is vs room (Ok n) = MadeRows F olds nows Is vs room n
 MakesRows F olds nows Is vs room (Err e) = e ≡ Full → room < missing_cells F olds vs + length (distinct vs)
 
 -- The node of these rows, which knows at most the table of the places of these numbers, or want of memory.
-abbrev pub IsNodeOf : (rows left right : List Row) → (ids table : List ℕ) → Result NodeValue KeepFault → Type 0
-IsNodeOf rows left right ids table (Ok n) = (n.rows ≡ rows) × IsTableOf left right ids table n.known
-IsNodeOf rows left right ids table (Err e) = e ≡ NoMemory
+abbrev pub IsNodeOf : (rows left right : List Row) → (nothing_left nothing_right : Option ℕ) → (ids table : List ℕ) → Result NodeValue KeepFault → Type 0
+IsNodeOf rows left right nothing_left nothing_right ids table (Ok n) =
+    (n.rows ≡ rows) × IsTableOf left right ids table n.known × ComesFromBoth nothing_left nothing_right rows n.nothing
+IsNodeOf rows left right nothing_left nothing_right ids table (Err e) = e ≡ NoMemory
 
 -- The node of these rows, which knows a transition, where they are within the room; Full only where they exceed it.
-abbrev pub IsNodeAgain : List Row → TransitionValue → ℕ → Result NodeValue KeepFault → Type 0
-IsNodeAgain rows t room (Ok n) = (n.rows ≡ rows) × (n.known ≡ Some t) × (length rows ≤ room)
-IsNodeAgain rows t room (Err e) = e ≡ Full → room < length rows
+abbrev pub IsNodeAgain : List Row → TransitionValue → (nothing_left nothing_right : Option ℕ) → ℕ → Result NodeValue KeepFault → Type 0
+IsNodeAgain rows t nothing_left nothing_right room (Ok n) =
+    (n.rows ≡ rows) × (n.known ≡ Some t) × (length rows ≤ room) × ComesFromBoth nothing_left nothing_right rows n.nothing
+IsNodeAgain rows t nothing_left nothing_right room (Err e) = e ≡ Full → room < length rows

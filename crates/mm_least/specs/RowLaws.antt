@@ -35,6 +35,7 @@ use Rattle.mm_least.specs.Rows.{shown}
 use Rattle.mm_least.specs.Candidates.{Candidate, candidate, put, put_all, types_of, held, typed, leaf_candidates, pairs_with, pairs_of}
 use Rattle.mm_least.specs.BestLaws.{Different, best-members, best-count}
 use Rattle.mm_least.specs.Passes.{AreWithin, AreOperands, AreLight, most_sum}
+use Rattle.mm_least.specs.EmptySets.{ComesFromBoth}
 use Rattle.mm_least.specs.RowCalls.{IsLeafRows, IsJoinRows, CanBeJoined, KnowsJoins, row_types}
 
 pub asks : (F : Formula) → asked (Least F) ≡ F
@@ -120,6 +121,7 @@ leaf_stays fr lists T n b h = record {
   name = h.name;
   within = within-stays fr.F fr.lists lists (shown n.rows) b h.within;
   rows = held-stays fr.F fr.lists lists n.rows b h.within ∙ h.rows;
+  nothing = h.nothing;
 }
 
 pub ids-within : (F : Formula) (olds nows : List (List Value)) (ids : List ℕ) → AllBegin olds nows → AreIn F olds ids → AreIn F nows ids
@@ -161,32 +163,35 @@ join_stays fr lists op a b n g h = record {
       held-stays fr.F fr.lists lists n.rows g h.within ∙ h.rows
       ∙ (λ i. put_all (pairs_of (join_type fr.f fr.F op) (sym (typed-stays fr.F fr.lists lists (shown a.rows) g h.left_within) i) 0 (sym (typed-stays fr.F fr.lists lists (shown b.rows) g h.right_within) i)) []);
   known = known_stays fr lists op n.known g h.known;
+  nothing = h.nothing;
 }
 
--- a parent can tell no more of rows than what they show
+-- a parent can tell no more of rows than what they show, and whether the set of one is empty
 abbrev pub ShowSame : NodeValue → NodeValue → Type 0
-ShowSame a b = shown a.rows ≡ shown b.rows
+ShowSame a b = (shown a.rows ≡ shown b.rows) × (a.nothing ≡ b.nothing)
 
 pub same_left : (fr : Frame) (op : Op) (a b c n : NodeValue) → ShowSame b a → IsJoinRows fr op a c n → IsJoinRows fr op b c n
 same_left fr op a b c n e h = record {
-  left_within = subst (AreWithin fr.F fr.lists) (sym e) h.left_within;
+  left_within = subst (AreWithin fr.F fr.lists) (sym e.0) h.left_within;
   right_within = h.right_within;
   within = h.within;
-  rows = h.rows ∙ ap (λ ps. put_all (pairs_of (join_type fr.f fr.F op) (typed fr.F fr.lists ps) 0 (typed fr.F fr.lists (shown c.rows))) []) (sym e);
+  rows = h.rows ∙ ap (λ ps. put_all (pairs_of (join_type fr.f fr.F op) (typed fr.F fr.lists ps) 0 (typed fr.F fr.lists (shown c.rows))) []) (sym e.0);
   known = h.known;
+  nothing = subst (λ o. ComesFromBoth o c.nothing n.rows n.nothing) (sym e.1) h.nothing;
 }
 
 pub same_right : (fr : Frame) (op : Op) (a b c n : NodeValue) → ShowSame c b → IsJoinRows fr op a b n → IsJoinRows fr op a c n
 same_right fr op a b c n e h = record {
   left_within = h.left_within;
-  right_within = subst (AreWithin fr.F fr.lists) (sym e) h.right_within;
+  right_within = subst (AreWithin fr.F fr.lists) (sym e.0) h.right_within;
   within = h.within;
-  rows = h.rows ∙ ap (λ ps. put_all (pairs_of (join_type fr.f fr.F op) (typed fr.F fr.lists (shown a.rows)) 0 (typed fr.F fr.lists ps)) []) (sym e);
+  rows = h.rows ∙ ap (λ ps. put_all (pairs_of (join_type fr.f fr.F op) (typed fr.F fr.lists (shown a.rows)) 0 (typed fr.F fr.lists ps)) []) (sym e.0);
   known = h.known;
+  nothing = subst (λ o. ComesFromBoth a.nothing o n.rows n.nothing) (sym e.1) h.nothing;
 }
 
 pub same_itself : (a : NodeValue) → ShowSame a a
-same_itself a = refl
+same_itself a = (refl, refl)
 
 -- what is known of joins
 pub knows_join : (fr : Frame) (op : Op) (a b n : NodeValue) → IsJoinRows fr op a b n → KnowsJoins fr op n

@@ -1,6 +1,6 @@
 //! The least set, found from the root downwards.
 
-ghost use Rattle.std.specs.Prelude.{◌≡◌, ◌<◌, ◌+◌, ◌++◌, [], length, slice_index_or, OnOk};
+ghost use Rattle.std.specs.Prelude.{◌≡◌, ◌<◌, ◌+◌, ◌++◌, [], Some, true, length, slice_index_or, OnOk};
 ghost use Rattle.mm_nodes.specs.KeptTrees.{top};
 ghost use Rattle.mm_nodes.specs.KeptNodes.{tree_of};
 ghost use Rattle.mm_least.specs.Rows.{shown};
@@ -76,6 +76,16 @@ fn add_name(
     }
 }
 
+/// Whether the set of a row is known to be empty.
+fn is_nothing(rows: &NodeRows, place: usize) -> bool
+    ensures { result ≡ true → rows.now.nothing ≡ Some place }
+{
+    match rows.nothing {
+        Some(nothing) => nothing as usize == place,
+        None => false,
+    }
+}
+
 /// Adds the names of the elements of a row's set, in leaf order.
 pub(crate) fn add_names(
     alloc: Global,
@@ -87,6 +97,9 @@ pub(crate) fn add_names(
     requires within { place < length (top (tree_of kept.now)).rows }
     ensures { OnOk result (names.new ≡ names.old ++ slice_index_or (names_of (tree_of kept.now)) place []) }
 {
+    if is_nothing(kept.entry(), place) {
+        return Ok(());
+    }
     match kept {
         Kept::One(node) => add_name(alloc, node.name, node.rows[place].origin, names),
         Kept::Two(_, left, right) => match kept.entry().rows[place].origin {

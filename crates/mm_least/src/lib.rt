@@ -2,6 +2,7 @@
 #![tactic(auto)]
 
 mod best;
+mod empty;
 mod found;
 mod known;
 mod laws;

@@ -21,13 +21,14 @@ ghost use Rattle.mm_least.specs.RowLaws.{same_left, same_right, same_itself, kno
 ghost use Rattle.mm_least.specs.RowCalls.{IsLeafRows, IsJoinRows, CanBeJoined, MakesRows, IsNodeOf, IsNodeAgain};
 ghost use Rattle.mm_least.specs.RowCalls.{KnowsJoins, row_types, element_name};
 
+use crate::empty::{place_from, place_from_both, same_place};
 use crate::found::Found;
 use crate::known::known_rows;
 use crate::log::standing;
 use crate::pass::{add_leaf, add_pairs};
 use crate::row::show_same;
 use crate::transition::{Transition, ids_of};
-use crate::{LeastFault, Row};
+use crate::{LeastFault, Origin, Row};
 use mm_base::{Name, Steps};
 use mm_nodes::Keeps;
 use mm_ops::Op;
@@ -38,13 +39,15 @@ use std::marker::Model;
 use std::rc::Rc;
 use std::sync::ledger::Ledger;
 
-/// One row for each type at a node, in the order of the leaf words of their sets; the name of the element of a leaf; and at a join
-/// the types that its operator made. It is made for a node, with one step, and never copied; what it knows of its operator may be shared.
+/// One row for each type at a node, in the order of the leaf words of their sets; the name of the element of a leaf; at a join the types
+/// that its operator made; and the place of the row whose set is empty, if there is one. It is made for a node, with one step, and never
+/// copied; what it knows of its operator may be shared.
 #[derive(Drop)]
 pub struct NodeRows {
     pub(crate) name: Option<Name>,
     pub(crate) rows: Vec<Row>,
     pub(crate) known: Option<Rc<Transition>>,
+    pub(crate) nothing: Option<u32>,
 }
 
 impl Model for NodeRows {
@@ -56,7 +59,7 @@ impl Model for NodeRows {
 
     ghost coded = { node_code };
 
-    ghost view = { λ s. record { name = s.name; rows = s.rows.items; known = option_map (λ t. t.value) s.known } };
+    ghost view = { λ s. record { name = s.name; rows = s.rows.items; known = option_map (λ t. t.value) s.known; nothing = s.nothing } };
 
     ghost invariant = { λ s. length s.rows.items < 4294967296 };
 }
@@ -84,11 +87,15 @@ impl NodeRows {
         let mut rows = Vec::new(alloc);
         let mut left = room;
         match add_leaf(alloc, automaton, leaf, &mut rows, &mut left) {
-            Ok(()) => Ok(NodeRows {
-                name: name_of(leaf),
-                rows,
-                known: None,
-            }),
+            Ok(()) => {
+                let nothing = place_from(&rows, Origin::Out);
+                Ok(NodeRows {
+                    name: name_of(leaf),
+                    rows,
+                    known: None,
+                    nothing,
+                })
+            }
             Err(fault) => Err(fault),
         }
     }
@@ -132,7 +139,14 @@ impl NodeRows {
             &mut found,
             &mut rest,
         ) {
-            Ok(()) => joined(alloc, &left.rows, &right.rows, found),
+            Ok(()) => joined(
+                alloc,
+                &left.rows,
+                &right.rows,
+                left.nothing,
+                right.nothing,
+                found,
+            ),
             Err(fault) => Err(fault),
         }
     }
@@ -171,7 +185,7 @@ impl NodeRows {
         match known_rows(alloc, &left.rows, &right.rows, transition) {
             Ok(Some(rows)) => {
                 steps.tick();
-                joined_again(rows, transition, room)
+                joined_again(rows, transition, left.nothing, right.nothing, room)
             }
             Ok(None) => NodeRows::join(alloc, automaton, op, left, right, room, steps),
             Err(fault) => {
@@ -239,7 +253,7 @@ impl Keeps for NodeRows {
     }
 
     fn looks_same(&self, other: &NodeRows) -> bool {
-        show_same(&self.rows, &other.rows)
+        show_same(&self.rows, &other.rows) && same_place(self.nothing, other.nothing)
     }
 
     fn sketch(&self, alloc: Global) -> Option<NodeRows> {
@@ -251,6 +265,7 @@ impl Keeps for NodeRows {
                 name: None,
                 rows: Vec::new(alloc),
                 known: Some(transition),
+                nothing: None,
             }),
             Err(_) => None,
         }
@@ -293,19 +308,32 @@ fn name_of(leaf: &Leaf) -> Option<Name>
 const MOST_PAIRS: usize = 16384;
 
 /// The node of a join by what was found for its pairs.
-fn joined(alloc: Global, left: &[Row], right: &[Row], found: Found) -> Result<NodeRows, LeastFault>
+fn joined(
+    alloc: Global,
+    left: &[Row],
+    right: &[Row],
+    nothing_left: Option<u32>,
+    nothing_right: Option<u32>,
+    found: Found,
+) -> Result<NodeRows, LeastFault>
     requires found { IsFound found }
     requires few { length (rows_of found) < 4294967296 }
-    ensures { IsNodeOf (rows_of found) left.now right.now found.ids.items found.table.items result }
+    ensures { IsNodeOf (rows_of found) left.now right.now nothing_left nothing_right found.ids.items found.table.items result }
 {
     let rows = match standing(alloc, &found.lasts, &found.log) {
         Ok(rows) => rows,
         Err(fault) => return Err(fault),
     };
+    let nothing = place_from_both(nothing_left, nothing_right, &rows);
     let name = None;
     if found.table.len() > MOST_PAIRS {
         let known = None;
-        return Ok(NodeRows { name, rows, known });
+        return Ok(NodeRows {
+            name,
+            rows,
+            known,
+            nothing,
+        });
     }
     let left = match ids_of(alloc, left) {
         Ok(ids) => ids,
@@ -325,7 +353,12 @@ fn joined(alloc: Global, left: &[Row], right: &[Row], found: Found) -> Result<No
     match Rc::new(alloc, transition) {
         Ok(transition) => {
             let known = Some(transition);
-            Ok(NodeRows { name, rows, known })
+            Ok(NodeRows {
+                name,
+                rows,
+                known,
+                nothing,
+            })
         }
         Err(_) => Err(LeastFault::NoMemory),
     }
@@ -335,19 +368,27 @@ fn joined(alloc: Global, left: &[Row], right: &[Row], found: Found) -> Result<No
 fn joined_again(
     rows: Vec<Row>,
     transition: &Rc<Transition>,
+    nothing_left: Option<u32>,
+    nothing_right: Option<u32>,
     room: u64,
 ) -> Result<NodeRows, LeastFault>
     requires { room < 4294967296 }
-    ensures { IsNodeAgain rows.items transition.now.value room result }
+    ensures { IsNodeAgain rows.items transition.now.value nothing_left nothing_right room result }
 {
     if rows.len() as u64 > room {
         return Err(LeastFault::Full);
     }
+    let nothing = place_from_both(nothing_left, nothing_right, &rows);
     match transition.clone() {
         Ok(transition) => {
             let name = None;
             let known = Some(transition);
-            Ok(NodeRows { name, rows, known })
+            Ok(NodeRows {
+                name,
+                rows,
+                known,
+                nothing,
+            })
         }
         Err(_) => Err(LeastFault::NoMemory),
     }

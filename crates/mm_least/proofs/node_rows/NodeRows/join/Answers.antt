@@ -7,6 +7,7 @@ use Rattle.mm_least.specs.Passes.{Passed, AreTooMany}
 use Rattle.mm_least.specs.Transitions.{Told}
 use Rattle.mm_least.specs.FoundTypes.{names_of, rows_of}
 use Rattle.mm_least.specs.RowCalls.{IsNodeOf}
+use Rattle.mm_least.specs.NodeRowsValue.{NodeValue}
 use Rattle.mm_least.proofs.NodeLemmas.{node_made, too_many_rows}
 use Rattle.mm_least.specs.RowLaws.{of-types}
 use Rattle.mm_least.proofs.node_rows.NodeRows.join.Goals as goal
@@ -32,8 +33,10 @@ returns-in-Ok-clause-makes g c =
     (subst (λ (rs : List Row). Told F olds nows (names_of c.new-found.result) (names_of found) (types_of (pairs_of j (typed F olds (shown c.args.left.now.rows)) 0 (typed F olds (shown rs))))) r
     (subst (λ (rs : List Row). Told F olds nows (names_of c.new-found.result) (names_of found) (types_of (pairs_of j (typed F olds (shown rs)) 0 (typed F olds (shown c.deref-2.result.now))))) l c.in-Ok.ensures.told)) in
     node_made F op olds nows c.args.left.now c.args.right.now c.requires.left.operands c.requires.right.operands c.requires.exact found c.in-Ok.ensures.found c.args.room c.add_pairs.new.room p told c.joined.result
-    (subst (λ (rs : List Row). IsNodeOf (rows_of found) c.args.left.now.rows rs found.ids.items found.table.items c.joined.result) again_right
-    (subst (λ (rs : List Row). IsNodeOf (rows_of found) rs c.deref-in-Ok-2.result.now found.ids.items found.table.items c.joined.result) again_left c.joined.ensures))
+    (subst (λ (x : NodeValue). IsNodeOf (rows_of found) c.args.left.now.rows c.args.right.now.rows c.args.left.now.nothing x.nothing found.ids.items found.table.items c.joined.result) c.right.view_is
+    (subst (λ (x : NodeValue). IsNodeOf (rows_of found) c.args.left.now.rows c.args.right.now.rows x.nothing c.right.inside.nothing found.ids.items found.table.items c.joined.result) c.left.view_is
+    (subst (λ (rs : List Row). IsNodeOf (rows_of found) c.args.left.now.rows rs c.left.inside.nothing c.right.inside.nothing found.ids.items found.table.items c.joined.result) again_right
+    (subst (λ (rs : List Row). IsNodeOf (rows_of found) rs c.deref-in-Ok-2.result.now c.left.inside.nothing c.right.inside.nothing found.ids.items found.table.items c.joined.result) again_left c.joined.ensures))))
 
 pub returns-in-Err-clause-makes : goal.returns-in-Err-clause-makes
 returns-in-Err-clause-makes g c = λ full.

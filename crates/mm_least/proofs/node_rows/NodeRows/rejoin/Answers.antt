@@ -6,6 +6,8 @@ use Rattle.mm_least.specs.Rows.{shown}
 use Rattle.mm_least.specs.Candidates.{typed_by, pairs_of}
 use Rattle.mm_least.specs.Transitions.{TransitionValue, IsTransition, IsKnown}
 use Rattle.mm_least.specs.Logs.{AreApart}
+use Rattle.mm_least.specs.RowCalls.{IsNodeAgain}
+use Rattle.mm_least.specs.NodeRowsValue.{NodeValue}
 use Rattle.mm_least.specs.KnownRows.{PutsAll}
 use Rattle.mm_least.proofs.KnownLemmas.{known_sized, known_apart, made_again, puts_at}
 use Rattle.mm_least.proofs.node_rows.NodeRows.rejoin.Goals as goal
@@ -50,4 +52,7 @@ returns-in-Ok-Some-clause-makes g c =
     subst (λ (t : TransitionValue). PutsAll t (λ type join. pairs_of join (typed_by type (shown left.rows)) 0 (typed_by type (shown right.rows))) [] rows.items) c.deref-3.ensures
     (subst (λ (rs : List Row). PutsAll c.deref-3.result.now (λ type join. pairs_of join (typed_by type (shown left.rows)) 0 (typed_by type (shown rs))) [] rows.items) r
     (subst (λ (rs : List Row). PutsAll c.deref-3.result.now (λ type join. pairs_of join (typed_by type (shown rs)) 0 (typed_by type (shown c.deref-2.result.now))) [] rows.items) l first)) in
-    made_again F op lists T h c.requires.exact left right c.requires.left c.requires.right rows.items puts c.args.room c.joined_again.result c.joined_again.ensures
+    let made : IsNodeAgain rows.items T left.nothing right.nothing c.args.room c.joined_again.result =
+    subst (λ (x : NodeValue). IsNodeAgain rows.items T left.nothing x.nothing c.args.room c.joined_again.result) c.right.view_is
+    (subst (λ (x : NodeValue). IsNodeAgain rows.items T x.nothing c.right.inside.nothing c.args.room c.joined_again.result) c.left.view_is c.joined_again.ensures) in
+    made_again F op lists T h c.requires.exact left right c.requires.left c.requires.right rows.items puts c.args.room c.joined_again.result made
