@@ -10,11 +10,11 @@ mod trees;
 
 pub use answers::{
     answer_lines_are_answers, checks_are_answered, decisions_ignore_weights, headers_give_sessions,
-    items_keep_sessions_sound, minors_are_decided, minors_are_told, query_lines_give_what_they_spell,
-    refusals_change_nothing, replacements_are_answered, sessions_may_begin_with_the_present_tree,
-    the_output_answers_checks, the_output_answers_replacements, the_output_answers_weights,
-    the_output_begins_with_the_answer, the_output_names_the_difference, verdicts_are_meant,
-    weights_are_answered,
+    items_keep_sessions_sound, minors_are_decided, minors_are_told,
+    query_lines_give_what_they_spell, refusals_change_nothing, replacements_are_answered,
+    sessions_may_begin_with_the_present_tree, the_output_answers_checks,
+    the_output_answers_replacements, the_output_answers_weights, the_output_begins_with_the_answer,
+    the_output_names_the_difference, verdicts_are_meant, weights_are_answered,
 };
 pub use trees::{elements_are_named_and_weighted, subtrees_are_of_nodes, weights_of_sets_fit};
 

@@ -124,11 +124,5 @@ fn put<N: Keeps>(kept: &mut Kept<N>, place: &Place, change: Change<N>)
         (tree_of change.part) change.made.items }
 {
     let Change { mut part, mut made } = change;
-    exchange(
-        kept,
-        place.number(),
-        place.depth(),
-        &mut part,
-        &mut made,
-    );
+    exchange(kept, place.number(), place.depth(), &mut part, &mut made);
 }
