@@ -1,7 +1,8 @@
 -- The walk over candidates whose types a table tells.
 use Rattle.std.proofs.Common.{◌≡◌, ◌<◌, ◌≤◌, ◌+◌, ◌*◌, ◌+ℤ◌, ℕ, zero, suc, nat_eq, Bool, true, false, ℤ, List, [], ◌∷◌, ◌++◌, take, map, length, get_or, pos, Option, Some, None, Result, Ok, Err, refl, sym, ap, ◌∙◌, subst, arith, length-append}
 use Rattle.std.proofs.Math.Nat.{suc-mul, mul-le-mul_right}
-use Rattle.std.proofs.lemmas.List.{length-map, get_or_default, get_or-map, get_or_append_left, get_or-append-add}
+use Rattle.std.proofs.lemmas.Grind.{take_at_read}
+use Rattle.std.proofs.lemmas.List.{length-map, map-append, get_or_default, get_or-map, get_or_append_left, get_or-append-add}
 use Rattle.std.specs.declared.vec.Vec.{Vec}
 use Rattle.std.specs.declared.alloc.Global.{Global}
 use Rattle.mm_logic.specs.Formula.{Formula}
@@ -27,11 +28,11 @@ use Rattle.mm_least.specs.BestLaws.{Different, same_itself, put_all-append}
 use Rattle.mm_least.specs.Transitions.{TransitionValue, ArePlaces, named, IsTransition, IsKnown}
 use Rattle.mm_least.specs.declared.log.Entry.{Entry}
 use Rattle.mm_least.specs.Logs.{AreApart, IsLog, Offered, standing}
-use Rattle.mm_least.specs.KnownRows.{AreBelow, Reads, PutsAll, LogsKnown, RowsKnown}
+use Rattle.mm_least.specs.KnownRows.{AreColumns, AreBelow, Reads, PutsAll, LogsKnown, RowsKnown}
 use Rattle.mm_least.specs.NodeRowsValue.{NodeValue}
 use Rattle.mm_least.specs.EmptySets.{ComesFromBoth}
 use Rattle.mm_least.specs.RowCalls.{CanBeJoined, IsJoinRows, MadeRows, MakesRows, IsNodeAgain, row_types}
-use Rattle.mm_least.specs.RowLaws.{join_has}
+use Rattle.mm_least.specs.RowLaws.{append_fits, join_has}
 use Rattle.mm_least.proofs.PassLemmas.{places_tell, put_held, put_below, tells_apart}
 use Rattle.mm_least.proofs.WalkLemmas.{with-next, of-next}
 use Rattle.mm_least.proofs.NodeLemmas.{operands_within}
@@ -146,6 +147,29 @@ all_taken [] (suc k) l = refl
 all_taken (r ∷ rows) zero l = absurd (omega (arith, l))
 all_taken (r ∷ rows) (suc k) l = ap (λ rs. r ∷ rs) (all_taken rows k (omega (arith, l)))
 
+-- columns of the types of rows
+module _ (ids : List ℕ) where
+  pub columns_next : (rows : List Row) (k : ℕ) → k < length rows → (column : ℕ) → column < length ids → get_or ids column 0 ≡ (get_or rows k no_row).id → (columns : List ℕ) → AreColumns ids (take k rows) columns
+      → AreColumns ids (take (k + 1) rows) (columns ++ column ∷ [])
+  columns_next rows k l column m is columns h = record {
+    placed = append_fits (λ p. p < length ids) columns (column ∷ []) h.placed (m, tt);
+    named_so =
+        map-append (λ p. get_or ids p 0) columns (column ∷ []) ∙ (λ i. h.named_so i ++ is i ∷ []) ∙ sym (map-append (λ (r : Row). r.id) (take k rows) (get_or rows k no_row ∷ []))
+        ∙ ap (map (λ (r : Row). r.id)) (sym (take_at_read rows k no_row l).1);
+  }
+
+  module _ (rows : List Row) (columns : List ℕ) (h : AreColumns ids rows columns) where
+    pub columns_long : length columns ≡ length rows
+    columns_long = sym (length-map columns (λ p. get_or ids p 0)) ∙ ap length h.named_so ∙ length-map rows (λ (r : Row). r.id)
+
+    pub column_placed : (k : ℕ) → k < length rows → get_or columns k 0 < length ids
+    column_placed k l = fit_place (λ p. p < length ids) columns k 0 h.placed (subst (λ n. k < n) (sym columns_long) l)
+
+    pub column_named : (k : ℕ) → k < length rows → get_or ids (get_or columns k 0) 0 ≡ (get_or rows k no_row).id
+    column_named k l =
+        sym (get_or-map (λ p. get_or ids p 0) columns k 0 0 (subst (λ n. k < n) (sym columns_long) l)) ∙ ap (λ xs. get_or xs k 0) h.named_so
+        ∙ get_or-map (λ (r : Row). r.id) rows k no_row 0 l
+
 module _ (t : TransitionValue) (sized : length t.table ≡ length t.left * length t.right) (placed : ArePlaces t.ids t.table) where
   -- one pair more
   pub pair_offered : (left : Row) (at : ℕ) → at < length t.left → get_or t.left at 0 ≡ left.id → (right : List Row) (k : ℕ) → k < length right → (place column : ℕ) (rs : List ℕ) → rs ≡ t.right → column < length rs
@@ -168,6 +192,13 @@ module _ (t : TransitionValue) (sized : length t.table ≡ length t.left * lengt
         with_next_puts t left place right k no_row l (standing before) (standing olds) (standing nows) puts
             (puts_one t sized placed left.id (get_or right k no_row).id at column there here inside named_so weight (Pair place k) (standing olds) (standing nows) o.put),
       )
+
+-- the pair of a row and a column is in the table
+pub pair_in_table : (t : TransitionValue) → length t.table ≡ length t.left * length t.right → (at column : ℕ) → at < length t.left → column < length t.right → (width : ℕ) → width ≡ length t.right → (table : List ℕ) → table ≡ t.table
+    → at * width + column < length table
+pair_in_table t sized at column l m width w table e =
+    subst (λ (xs : List ℕ). at * width + column < length xs) (sym e)
+    (subst (λ n. at * width + column < n) (sym sized) (subst (λ n. at * n + column < length t.left * length t.right) (sym w) (column_within (length t.left) (length t.right) at column l m)))
 
 pub logs_known : (t : TransitionValue) (cs : (ℕ → Value) → (Value → Value → Value) → List (Candidate Origin)) (olds : List Entry) (lasts : List (Option ℕ)) (nows : List Entry) (result : Result Bool KeepFault) (b : Bool)
     → result ≡ Ok b → b ≡ true → LogsKnown t cs olds lasts nows result → IsLog t.ids lasts nows × PutsAll t cs (standing olds) (standing nows)

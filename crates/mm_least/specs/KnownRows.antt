@@ -12,7 +12,7 @@ use Rattle.mm_least.specs.declared.row.Row.{Row}
 use Rattle.mm_least.specs.declared.row.Origin.{Origin}
 use Rattle.mm_least.specs.Rows.{shown}
 use Rattle.mm_least.specs.Candidates.{Candidate, put_all, held_by}
-use Rattle.mm_least.specs.Transitions.{TransitionValue, named}
+use Rattle.mm_least.specs.Transitions.{TransitionValue, named, ArePlaces}
 use Rattle.mm_least.specs.declared.log.Entry.{Entry}
 use Rattle.mm_least.specs.Logs.{standing, IsLog}
 
@@ -35,6 +35,22 @@ abbrev pub PutsAll : TransitionValue → ((ℕ → Value) → (Value → Value �
 PutsAll t cs rows0 rows =
     (type : ℕ → Value) (join : Value → Value → Value) (n : ℕ) → Reads type join n t → AreBelow n rows0
     → (held_by type rows ≡ put_all (cs type join) (held_by type rows0)) × AreBelow n rows
+
+-- For each row a place at which its type is among these.
+pub record AreColumns (ids : List ℕ) (rows : List Row) (columns : List ℕ) : Type 0 where
+  pub placed : ArePlaces ids columns
+  pub named_so : named ids columns ≡ map (λ r. r.id) rows
+
+-- such places, unless the type of some row is missing
+abbrev pub FindsColumns : List ℕ → List Row → Result (Option (Vec ℕ Global)) KeepFault → Type 0
+FindsColumns ids rows (Ok (Some columns)) = AreColumns ids rows columns.items
+FindsColumns ids rows (Ok None) = Unit {0}
+FindsColumns ids rows (Err e) = e ≡ NoMemory
+
+-- the entries hold the rows
+abbrev pub Logs : TransitionValue → ((ℕ → Value) → (Value → Value → Value) → List (Candidate Origin)) → List Entry → List (Option ℕ) → List Entry → Result (Unit {0}) KeepFault → Type 0
+Logs t cs olds lasts nows (Ok u) = IsLog t.ids lasts nows × PutsAll t cs (standing olds) (standing nows)
+Logs t cs olds lasts nows (Err e) = e ≡ NoMemory
 
 -- The entries hold the rows, unless the table lacks the type of some row.
 abbrev pub LogsKnown : TransitionValue → ((ℕ → Value) → (Value → Value → Value) → List (Candidate Origin)) → List Entry → List (Option ℕ) → List Entry → Result Bool KeepFault → Type 0

@@ -6,7 +6,7 @@ ghost use Rattle.mm_least.specs.Candidates.{typed_by, pairs_with, pairs_of};
 ghost use Rattle.mm_least.specs.Passes.{AreLight, most_sum};
 ghost use Rattle.mm_least.specs.Transitions.{ArePlaces};
 ghost use Rattle.mm_least.specs.Logs.{AreApart, IsLog, Offers};
-ghost use Rattle.mm_least.specs.KnownRows.{LogsKnown, RowsKnown};
+ghost use Rattle.mm_least.specs.KnownRows.{AreColumns, FindsColumns, Logs, LogsKnown, RowsKnown};
 
 use crate::log::{Entry, offer, standing};
 use crate::transition::{Transition, place_near};
@@ -40,35 +40,56 @@ fn offer_pair(
     offer(ids, place, Row { id, weight, origin }, lasts, log)
 }
 
-/// The candidates of the left row of a place, which is at `at` in the table; false where the table lacks the type of a row.
+/// A column of the table for the type of each right row; none where the table lacks one of these types.
+fn columns_of(
+    alloc: Global,
+    ids: &[TypeId],
+    right: &[Row],
+) -> Result<Option<Vec<usize>>, LeastFault>
+    ensures { FindsColumns ids.now right.now result }
+{
+    let mut columns = Vec::new(alloc);
+    let mut guess = 0;
+    for k in 0..right.len() {
+        let Some(column) = place_near(ids, right[k].id, guess) else {
+            return Ok(None);
+        };
+        guess = column + 1;
+        match columns.push(column) {
+            Ok(()) => {}
+            Err(_) => return Err(LeastFault::NoMemory),
+        }
+    }
+    Ok(Some(columns))
+}
+
+/// The candidates of the left row of a place, which is at `at` in the table, with the right rows, which are at these columns.
 fn offer_with(
     left: &Row,
     place: u32,
     at: usize,
     right: &[Row],
+    columns: &[usize],
     transition: &Transition,
     lasts: &mut Vec<Option<usize>>,
     log: &mut Vec<Entry>,
-) -> Result<bool, LeastFault>
+) -> Result<(), LeastFault>
     requires sized { length transition.now.table ≡ length transition.now.left * length transition.now.right }
     requires placed { ArePlaces transition.now.ids transition.now.table }
     requires apart { AreApart transition.now.ids }
     requires there { at < length transition.now.left }
     requires here { slice_index_or transition.now.left at 0 ≡ left.now.id }
+    requires columns { AreColumns transition.now.right right.now columns.now }
     requires left_light { nat_abs left.now.weight ≤ most_sum }
     requires right_light { AreLight (shown right.now) }
     requires few { length right.now < 4294967296 }
     requires log { IsLog transition.now.ids lasts.old.items log.old.items }
-    ensures { LogsKnown transition.now (λ type join. pairs_with join (type left.now.id, left.now.weight) place
+    ensures { Logs transition.now (λ type join. pairs_with join (type left.now.id, left.now.weight) place
         (typed_by type (shown right.now)) 0) log.old.items lasts.new.items log.new.items result }
 {
     let start = at * transition.right.len();
-    let mut guess = 0;
     for k in 0..right.len() {
-        let Some(column) = place_near(&transition.right, right[k].id, guess) else {
-            return Ok(false);
-        };
-        guess = column + 1;
+        let column = columns[k];
         let made = transition.table[start + column];
         let origin = Origin::Pair(place, k as u32);
         match offer_pair(&transition.ids, made, left, &right[k], origin, lasts, log) {
@@ -76,13 +97,14 @@ fn offer_with(
             Err(fault) => return Err(fault),
         }
     }
-    Ok(true)
+    Ok(())
 }
 
-/// The candidates of a join; false where the table lacks the type of a row.
+/// The candidates of a join, whose right rows are at these columns; false where the table lacks the type of a left row.
 fn offer_all(
     left: &[Row],
     right: &[Row],
+    columns: &[usize],
     transition: &Transition,
     lasts: &mut Vec<Option<usize>>,
     log: &mut Vec<Entry>,
@@ -90,6 +112,7 @@ fn offer_all(
     requires sized { length transition.now.table ≡ length transition.now.left * length transition.now.right }
     requires placed { ArePlaces transition.now.ids transition.now.table }
     requires apart { AreApart transition.now.ids }
+    requires columns { AreColumns transition.now.right right.now columns.now }
     requires left_light { AreLight (shown left.now) }
     requires few_left { length left.now < 4294967296 }
     requires right_light { AreLight (shown right.now) }
@@ -104,9 +127,10 @@ fn offer_all(
             return Ok(false);
         };
         guess = at + 1;
-        match offer_with(&left[k], k as u32, at, right, transition, lasts, log) {
-            Ok(true) => {}
-            Ok(false) => return Ok(false),
+        match offer_with(
+            &left[k], k as u32, at, right, columns, transition, lasts, log,
+        ) {
+            Ok(()) => {}
             Err(fault) => return Err(fault),
         }
     }
@@ -130,13 +154,18 @@ pub(crate) fn known_rows(
     ensures { RowsKnown transition.now (λ type join. pairs_of join (typed_by type (shown left.now)) 0 (typed_by type (shown right.now)))
         result }
 {
+    let columns = match columns_of(alloc, &transition.right, right) {
+        Ok(Some(columns)) => columns,
+        Ok(None) => return Ok(None),
+        Err(fault) => return Err(fault),
+    };
     let Ok(mut lasts) = Vec::from_elem(alloc, None, transition.ids.len()) else {
         return Err(LeastFault::NoMemory);
     };
     let Ok(mut log) = Vec::with_capacity(alloc, transition.ids.len()) else {
         return Err(LeastFault::NoMemory);
     };
-    match offer_all(left, right, transition, &mut lasts, &mut log) {
+    match offer_all(left, right, &columns, transition, &mut lasts, &mut log) {
         Ok(true) => match standing(alloc, &lasts, &log) {
             Ok(rows) => Ok(Some(rows)),
             Err(fault) => Err(fault),

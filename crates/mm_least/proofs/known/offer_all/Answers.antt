@@ -1,12 +1,12 @@
-use Rattle.std.proofs.Common.{◌≤◌, nat_abs, List, get_or, subst}
+use Rattle.std.proofs.Common.{◌≤◌, nat_abs, List, subst}
 use Rattle.mm_least.specs.declared.row.Row.{Row}
 use Rattle.mm_least.specs.Rows.{shown}
-use Rattle.mm_least.specs.Candidates.{typed_by, pairs_with, pairs_of}
+use Rattle.mm_least.specs.Candidates.{typed_by, pairs_of}
 use Rattle.mm_least.specs.Logs.{standing}
 use Rattle.mm_least.specs.KnownRows.{PutsAll}
 use Rattle.mm_least.specs.Passes.{most_sum}
 use Rattle.mm_least.proofs.WalkLemmas.{fit_at}
-use Rattle.mm_least.proofs.KnownLemmas.{no_row, all_taken, logs_known, of_next_puts}
+use Rattle.mm_least.proofs.KnownLemmas.{no_row, all_taken, of_next_puts}
 use Rattle.mm_least.proofs.known.offer_all.Goals as goal
 
 pub offer_with-requires-clause-left_light : goal.offer_with-requires-clause-left_light
@@ -18,9 +18,7 @@ loop-k-preserved c =
     let left = c.args.left.now in
     let right = c.args.right.now in
     let k = c.loop-k.k in
-    let both =
-    logs_known T (λ type join. pairs_with join (type (get_or left k no_row).id, (get_or left k no_row).weight) k (typed_by type (shown right)) 0) c.loop-k.log.items c.offer_with.new.lasts.items c.offer_with.new.log.items c.offer_with.result
-    c.in-Ok-true.field-0 c.in-Ok-true.is c.in-Ok-true.field-0-test c.offer_with.ensures in
+    let both = c.in-Ok.ensures in
     (both.0, of_next_puts T left right k no_row c.loop-k-test.true (standing c.args.log.now.items) (standing c.loop-k.log.items) (standing c.offer_with.new.log.items) c.loop-k.invariant.1 both.1)
 
 pub returns : goal.returns
