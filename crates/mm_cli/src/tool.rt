@@ -2,6 +2,7 @@
 ghost use Rattle.std.specs.Prelude.{◌≡◌, false, None};
 ghost use Rattle.mm_base.specs.Causes.{Rose};
 ghost use Rattle.mm_base.specs.declared.status.Status.TheVariants as ends;
+ghost use Rattle.mm_cli.specs.Minors.{TellMinors};
 ghost use Rattle.mm_cli.specs.Owed.{Owed, reads};
 ghost use Rattle.mm_cli.specs.Spending.{Spends};
 ghost use Rattle.mm_cli.specs.Words.{asked};
@@ -30,6 +31,7 @@ use std::sync::ledger::Ledger;
 /// - A command that is not built yet is refused, and words that ask for nothing are `Usage`; nothing is read then.
 ///
 /// `NoMemory` may come at any time, with a front of what is owed.
+#[tactic(auto, using(crate::proofs::MinorLemmas::tell_minors))]
 pub fn top<S: Source, K: Sink, L: Ledger>(
     alloc: Global,
     words: &Vec<String>,
@@ -39,6 +41,7 @@ pub fn top<S: Source, K: Sink, L: Ledger>(
 ) -> Status
     // What the words ask for is answered whole, or cut short by a fault or for want of memory.
     ensures owed { Owed (asked words.now.items) (S.left source.old) (S.left source.new) (K.held sink.old) (K.held sink.new) result }
+    ensures minors { TellMinors (asked words.now.items) (S.left source.old) }
     ensures usage { result ≡ ends.Usage → asked words.now.items ≡ None }
     ensures unread { reads (asked words.now.items) ≡ false → source.new ≡ source.old }
 
