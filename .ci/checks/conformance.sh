@@ -12,5 +12,5 @@ fi
 if [ ! -x "$program" ]; then
   (cd "$top/crates/mso" && rt run -- run < stdin) > /dev/null || exit 1
 fi
-python3 "$check" "$program" --commands run,sample,build,dual --random 300 --seed "$(date +%j)" | tail -n 1
+python3 "$check" "$program" --commands run,sample,build,dual,minor --random 300 --seed "$(date +%j)" | tail -n 1
 exit "${PIPESTATUS[0]}"

@@ -1,5 +1,5 @@
 #!/usr/bin/env bash
-# The examples: each job is answered as written beside it; what `build` writes of each text is the header beside it, what `dual` writes
+# The examples: each job is answered as written beside it, and so is each job that asks for a minor, by the words of its first comment; what `build` writes of each text is the header beside it, what `dual` writes
 # of a header is the one whose name ends in `_dual`, and each question put after a header is answered as written beside it. The program
 # is the one that `rt ci` or `rt run` built.
 set -u
@@ -22,6 +22,18 @@ writes() { # COMMAND TEXT HEADER
 for job in examples/*.mso; do
   answer=${job%.mso}.answer
   if "$program" run < "$job" | cmp -s - "$answer"; then
+    answered=$((answered + 1))
+  else
+    echo "examples: $job is not answered as in $answer"
+    failed=$((failed + 1))
+  fi
+done
+for job in examples/*.minor; do
+  answer=${job%.minor}.answer
+  words=$(sed -n '1s/^# \(minor [^:]*\):.*/\1/p' "$job")
+  # the words stand in the job's first comment
+  # shellcheck disable=SC2086
+  if "$program" $words < "$job" | cmp -s - "$answer"; then
     answered=$((answered + 1))
   else
     echo "examples: $job is not answered as in $answer"
