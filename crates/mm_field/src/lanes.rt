@@ -1,6 +1,7 @@
 //! The kernels of linear algebra: sums and multiples of whole vectors, entry by entry.
 //!
-//! Each field has a loop of its own, without branches or tables, so that the compiler can work on many entries at once.
+//! Each factor of each field has a loop of its own, without branches or tables, so that the compiler can work on many
+//! entries at once.
 #![tactic(auto)]
 
 ghost use Rattle.std.specs.Prelude.{◌≡◌, ◌≢◌, ◌<◌, ◌≤◌, ◌*◌, ◌%◌, ◌↔◌, ℕ, length, slice_index, IsSome, IfSome, IfNone, All};
@@ -23,9 +24,9 @@ pub fn axpy(f: Field, c: Elt, x: &[u8], y: &mut [u8])
     }
     match f {
         Field::Two => add_two(x, y),
-        Field::Three => add_three(c, x, y),
-        Field::Four => add_four(c, x, y),
-        Field::Five => add_five(c, x, y),
+        Field::Three => add_any_three(c, x, y),
+        Field::Four => add_any_four(c, x, y),
+        Field::Five => add_any_five(c, x, y),
     }
 }
 
@@ -72,6 +73,23 @@ fn add_two(x: &[u8], y: &mut [u8])
     }
 }
 
+// Over GF(3), a loop for each factor other than 0.
+#[inline(always)]
+fn add_any_three(c: Elt, x: &[u8], y: &mut [u8])
+    requires same_length { length x.now ≡ length y.old }
+    requires factor { c < 3 }
+    requires nonzero { c ≢ 0 }
+    requires digits_x { AreDigits Field.Three x.now }
+    requires digits_y { AreDigits Field.Three y.old }
+    ensures { y.new ≡ vector_sum Field.Three y.old (multiple Field.Three c x.now) }
+{
+    match c {
+        1 => add_three(1, x, y),
+        _ => add_three(2, x, y),
+    }
+}
+
+// One loop, for a factor that the caller writes out.
 #[inline(always)]
 fn add_three(c: Elt, x: &[u8], y: &mut [u8])
     requires same_length { length x.now ≡ length y.old }
@@ -86,6 +104,24 @@ fn add_three(c: Elt, x: &[u8], y: &mut [u8])
     }
 }
 
+// Over GF(4), a loop for each factor other than 0.
+#[inline(always)]
+fn add_any_four(c: Elt, x: &[u8], y: &mut [u8])
+    requires same_length { length x.now ≡ length y.old }
+    requires factor { c < 4 }
+    requires nonzero { c ≢ 0 }
+    requires digits_x { AreDigits Field.Four x.now }
+    requires digits_y { AreDigits Field.Four y.old }
+    ensures { y.new ≡ vector_sum Field.Four y.old (multiple Field.Four c x.now) }
+{
+    match c {
+        1 => add_four(1, x, y),
+        2 => add_four(2, x, y),
+        _ => add_four(3, x, y),
+    }
+}
+
+// One loop, for a factor that the caller writes out.
 #[inline(always)]
 fn add_four(c: Elt, x: &[u8], y: &mut [u8])
     requires same_length { length x.now ≡ length y.old }
@@ -100,6 +136,25 @@ fn add_four(c: Elt, x: &[u8], y: &mut [u8])
     }
 }
 
+// Over GF(5), a loop for each factor other than 0.
+#[inline(always)]
+fn add_any_five(c: Elt, x: &[u8], y: &mut [u8])
+    requires same_length { length x.now ≡ length y.old }
+    requires factor { c < 5 }
+    requires nonzero { c ≢ 0 }
+    requires digits_x { AreDigits Field.Five x.now }
+    requires digits_y { AreDigits Field.Five y.old }
+    ensures { y.new ≡ vector_sum Field.Five y.old (multiple Field.Five c x.now) }
+{
+    match c {
+        1 => add_five(1, x, y),
+        2 => add_five(2, x, y),
+        3 => add_five(3, x, y),
+        _ => add_five(4, x, y),
+    }
+}
+
+// One loop, for a factor that the caller writes out.
 #[inline(always)]
 fn add_five(c: Elt, x: &[u8], y: &mut [u8])
     requires same_length { length x.now ≡ length y.old }

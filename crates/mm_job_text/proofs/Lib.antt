@@ -1,8 +1,9 @@
-pub mod ReaderLemmas
-pub mod SpacedLemmas
+mod ReadTreeLemmas
+pub mod DigitLemmas
 pub mod NumeralLemmas
+pub mod ReaderLemmas
+pub mod ReadingLemmas
+pub mod SpacedLemmas
 pub mod TextLineLemmas
 pub mod WrittenLineLemmas
 pub mod WrittenTreeLemmas
-pub mod ReadingLemmas
-mod ReadTreeLemmas

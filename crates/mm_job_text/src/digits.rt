@@ -18,7 +18,11 @@ fn is_digit(f: Field, byte: u8) -> bool
 fn are_digits(f: Field, bytes: &[u8]) -> bool
     ensures { result ≡ list_all (is_digit f) bytes.now }
 {
-    bytes.iter().all(|b| is_digit(f, *b))
+    let mut all = true;
+    for b in bytes {
+        all &= is_digit(f, *b);
+    }
+    all
 }
 
 /// The digits that the bytes show.
@@ -26,9 +30,9 @@ fn shown(alloc: Global, f: Field, bytes: &[u8]) -> Result<Vec<u8>, NoMemory>
     requires { list_all (is_digit f) bytes.now ≡ true }
     ensures { IfOk result (λ digits. digits.items ≡ map digit_of bytes.now) }
 {
-    let mut digits = Vec::new(alloc);
-    'bytes: for b in bytes {
-        digits.push(*b - b'0')?;
+    let mut digits = bytes.to_vec(alloc)?;
+    for digit in digits.iter_mut() {
+        *digit -= b'0';
     }
     Ok(digits)
 }

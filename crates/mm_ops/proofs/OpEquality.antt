@@ -1,47 +1,19 @@
 -- Operators that are equal, field by field, are one operator.
-use Rattle.std.proofs.Common.{ℕ, ◌≡◌, ◌-◌, ◌&&◌, ◌==◌, List, [], ◌∷◌, ◌++◌, length, replicate, take, true, refl, sym, ap, ap₂, ◌∙◌}
+use Rattle.std.proofs.Common.{ℕ, ◌≡◌, ◌&&◌, ◌==◌, List, true, refl, ap, ◌∙◌}
 use Rattle.std.specs.Str.{bytes_eq}
 use Rattle.std.specs.Cmp.Lexicographic.{pointwise}
-use Rattle.std.proofs.lemmas.Slice.Eq.{bytes_eq-Decides}
+use Rattle.std.proofs.lemmas.Slice.Eq.{bytes_eq-Decides, slice_eq-Decides}
 use Rattle.std.proofs.lemmas.Bool.{and_parts, eqb-true}
-use Rattle.std.proofs.lemmas.List.{take_at}
 use Rattle.mm_field.specs.contracts.FieldPartialEq.TheImpl.{eq-value as field_eq}
 use Rattle.mm_field.specs.declared.Field.{Field}
 use Rattle.mm_field.specs.declared.Field.TheVariants.{Two, Three, Four, Five}
-use Rattle.mm_linear.specs.Padded.{padded}
 use Rattle.mm_logic.specs.Operator.{row_length}
 use Rattle.mm_ops.specs.OpValue.{OpValue, operator}
 use Rattle.mm_ops.specs.contracts.op.OpPartialEq.TheImpl.{eq-value as op_eq}
 use Rattle.mm_space.specs.contracts.generator.GenPartialEq.TheImpl.{eq-value as gen_eq}
-use Rattle.mm_space.specs.contracts.vector.VectorPartialEq.TheImpl.{eq-value as vector_eq}
-
--- lists of one length are the same where they are the same with what follows them
-front_same : {A : Type 0} (a b u v : List A) → length a ≡ length b → a ++ u ≡ b ++ v → a ≡ b
-front_same a b u v long whole = sym (take_at a u (length a) refl) ∙ ap (take (length a)) whole ∙ take_at b v (length a) (sym long)
-
-vector_same : (a b : List ℕ) → (vector_eq).it a b ≡ true → a ≡ b
-vector_same a b e =
-    let parts = and_parts (length a == length b) (bytes_eq (padded 24 a) (padded 24 b)) e in
-    front_same a b (replicate (24 - length a) 0) (replicate (24 - length b) 0) (eqb-true (length a) (length b) parts.0)
-    ((bytes_eq-Decides (padded 24 a) (padded 24 b)).0 parts.1)
-
-vectors_same : (g h : List (List ℕ)) → pointwise (vector_eq).it g h ≡ true → g ≡ h
-vectors_same [] [] e = refl
-vectors_same [] (y ∷ ys) e = cc
-vectors_same (x ∷ xs) [] e = cc
-vectors_same (x ∷ xs) (y ∷ ys) e =
-    let parts = and_parts ((vector_eq).it x y) (pointwise (vector_eq).it xs ys) e in
-    ap₂ (λ z zs. z ∷ zs) (vector_same x y parts.0) (vectors_same xs ys parts.1)
-
--- the rows of a matrix, and then empty ones
-abbrev six_rows : List (List ℕ) → List (List ℕ)
-six_rows g = g ++ replicate (6 - length g) []
 
 rows_same : (g h : List (List ℕ)) → (gen_eq).it g h ≡ true → g ≡ h
-rows_same g h e =
-    let parts = and_parts (length g == length h) (pointwise (vector_eq).it (six_rows g) (six_rows h)) e in
-    front_same g h (replicate (6 - length g) []) (replicate (6 - length h) []) (eqb-true (length g) (length h) parts.0)
-    (vectors_same (six_rows g) (six_rows h) parts.1)
+rows_same g h e = (slice_eq-Decides bytes_eq-Decides g h (pointwise bytes_eq g h) refl).0 e
 
 field_same : (f g : Field) → (field_eq).it f g ≡ true → f ≡ g
 field_same Two Two e = refl

@@ -8,6 +8,7 @@ pub mod Gathering
 mod PreimageLemmas
 mod HeadLemmas
 mod EqualLemmas
+mod EqualDigits
 mod ReversedLemmas
 mod PackLemmas
 mod PackSteps

@@ -1,6 +1,7 @@
 pub mod DigitTexts
 pub mod FormView
 pub mod GenView
+pub mod Hashing
 pub mod Images
 pub mod Insertion
 pub mod KeyValue

@@ -11,10 +11,11 @@ use crate::MAX_ROWS;
 use crate::rows::Row;
 use crate::vector::{Vector, is_byte};
 use mm_field::Field;
+use std::hash::{Hash, Hasher};
 use std::marker::Model;
 
 /// At most six vectors, the rows of a matrix. Contracts see it as the list of its rows.
-#[derive(Clone, Copy, PartialEq, Eq, Hash, Debug)]
+#[derive(Clone, Copy, Debug)]
 pub struct Gen {
     count: u8,
     // The rows, and then empty vectors.
@@ -35,6 +36,52 @@ impl Model for Gen {
     ghost inverse = { λ v. record { count = length v; kept = v ++ replicate (6 - length v) [] } };
 
     ghost inverse_ok = { λ a h. h.back };
+}
+
+impl PartialEq for Gen {
+    ghost use Rattle.std.specs.Str.{bytes_eq};
+    ghost use Rattle.std.specs.Cmp.{partial_equiv_from_equiv};
+    ghost use Rattle.std.specs.Cmp.Lexicographic.{pointwise, lists_per};
+    ghost use Rattle.std.proofs.lemmas.Cmp.{nat_list_eq_equiv};
+
+    ghost eq = { pointwise bytes_eq };
+
+    ghost laws = { lists_per (partial_equiv_from_equiv nat_list_eq_equiv) };
+
+    #[inline(always)]
+    fn eq(&self, other: &Self) -> bool {
+        if self.count != other.count {
+            return false;
+        }
+        for k in 0..self.count as usize {
+            if self.kept[k] != other.kept[k] {
+                return false;
+            }
+        }
+        true
+    }
+}
+
+impl Eq for Gen {
+    ghost use Rattle.std.specs.Cmp.Lexicographic.{lists_equiv};
+    ghost use Rattle.std.proofs.lemmas.Cmp.{nat_list_eq_equiv};
+
+    ghost laws = { lists_equiv nat_list_eq_equiv };
+}
+
+impl Hash for Gen {
+    ghost use Rattle.std.specs.Prelude.{[], ◌∷◌};
+    ghost use Rattle.std.specs.Hash as fed;
+    ghost use Rattle.mm_space.specs.Hashing.{same_rows_fed};
+
+    ghost hash_input = { fed.slice (λ v. v ∷ []) };
+
+    ghost respects_eq = { same_rows_fed };
+
+    fn hash<H: Hasher>(&self, state: &mut H) {
+        let rows: &[Vector] = &self.kept[..self.count as usize];
+        rows.hash(state);
+    }
 }
 
 impl Gen {

@@ -2,6 +2,7 @@
 #![tactic(auto)]
 
 ghost use Rattle.std.specs.Prelude.{◌≡◌, ◌<◌, ◌≤◌, ◌↔◌, ℕ, List, [], ◌∷◌, IsTrue, length, slice_index, take, IfSome, IfNone};
+ghost use Rattle.std.specs.Str.{bytes_eq};
 ghost use Rattle.mm_linear.specs.Padded.{padded};
 ghost use Rattle.mm_space.specs.VectorText.{IsVectorText};
 ghost use Rattle.mm_space.specs.DigitTexts.{vector_of};
@@ -10,10 +11,11 @@ ghost use Rattle.mm_space.specs.StoredDigits.{ZeroAfter};
 
 use crate::{MAX_DIGITS, WIDTH};
 use mm_field::{Elt, Field};
+use std::hash::{Hash, Hasher};
 use std::marker::Model;
 
 /// A vector of at most 18 digits. Contracts see it as the list of its digits.
-#[derive(Clone, Copy, PartialEq, Eq, Hash, Debug)]
+#[derive(Clone, Copy, Debug)]
 pub struct Vector {
     len: u8,
     // The digits, and then zeros.
@@ -35,6 +37,41 @@ impl Model for Vector {
     ghost inverse = { λ v. record { len = length v; digits = padded 24 v } };
 
     ghost inverse_ok = { λ a h. h.back };
+}
+
+impl PartialEq for Vector {
+    ghost use Rattle.std.specs.Str.{bytes_eq};
+    ghost use Rattle.std.specs.Cmp.{partial_equiv_from_equiv};
+    ghost use Rattle.std.proofs.lemmas.Cmp.{nat_list_eq_equiv};
+
+    ghost eq = { bytes_eq };
+
+    ghost laws = { partial_equiv_from_equiv nat_list_eq_equiv };
+
+    #[inline(always)]
+    fn eq(&self, other: &Self) -> bool {
+        self.len == other.len && are_equal(&self.digits, &other.digits)
+    }
+}
+
+impl Eq for Vector {
+    ghost use Rattle.std.proofs.lemmas.Cmp.{nat_list_eq_equiv};
+
+    ghost laws = { nat_list_eq_equiv };
+}
+
+impl Hash for Vector {
+    ghost use Rattle.std.specs.Prelude.{[], ◌∷◌};
+    ghost use Rattle.mm_space.specs.Hashing.{same_digits_fed};
+
+    ghost hash_input = { λ v. v ∷ [] };
+
+    ghost respects_eq = { same_digits_fed };
+
+    #[inline(always)]
+    fn hash<H: Hasher>(&self, state: &mut H) {
+        state.write(&self.digits[..self.len as usize]);
+    }
 }
 
 impl Vector {
@@ -113,6 +150,18 @@ impl Vector {
     {
         Vector { len, digits }
     }
+}
+
+// Whether two arrays are equal: without a branch, so that the compiler can work on many digits at once.
+#[inline(always)]
+fn are_equal(a: &[u8; WIDTH], b: &[u8; WIDTH]) -> bool
+    ensures { result ≡ bytes_eq a.now b.now }
+{
+    let mut difference = 0;
+    for k in 0..WIDTH {
+        difference |= a[k] ^ b[k];
+    }
+    difference == 0
 }
 
 // Whether the bytes are b alone.
