@@ -10,3 +10,4 @@ pub mod ShareLemmas
 pub mod GrowthLemmas
 pub mod ColumnLemmas
 pub mod LeadLemmas
+pub mod BitLemmas

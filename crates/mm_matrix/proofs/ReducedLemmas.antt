@@ -76,7 +76,7 @@ new_of_rest f n p rows ks v u leads rest at = record {
 -- ---- spans
 
 -- the vector and its rest, each in the span of the other and the rows
-rest_span : (f : Field) (n : ℕ) (rows : List (List ℕ)) (ks v u : List ℕ) → AreVectors f n rows → IsVector f n v → IsResidue f n rows ks v u →
+pub rest_span : (f : Field) (n : ℕ) (rows : List (List ℕ)) (ks v u : List ℕ) → AreVectors f n rows → IsVector f n v → IsResidue f n rows ks v u →
     SameRowSpace f n (v ∷ rows) (u ∷ rows)
 rest_span f n rows ks v u h hv rest =
     let hp = subst (λ w. IsVector f n w) rest.inside.sum (IsVector-combination f n rest.inside.coefficients rows h) in
@@ -114,7 +114,7 @@ scaled_span f n p rows u h hu at =
           (more_within f n u rows hu h),
     )
 
-span_trans : (f : Field) (n : ℕ) (A B C : List (List ℕ)) → AreVectors f n A → AreVectors f n C → SameRowSpace f n A B → SameRowSpace f n B C →
+pub span_trans : (f : Field) (n : ℕ) (A B C : List (List ℕ)) → AreVectors f n A → AreVectors f n C → SameRowSpace f n A B → SameRowSpace f n B C →
     SameRowSpace f n A C
 span_trans f n A B C ha hc p q = (IsWithin-within f n A B C hc p.0 q.0, IsWithin-within f n C B A ha q.1 p.1)
 

@@ -6,3 +6,4 @@ pub mod Orthogonal
 pub mod Projections
 pub mod Columns
 pub mod KeptRows
+pub mod BitRows

@@ -91,7 +91,11 @@ fn clear_row(f: Field, lead: usize, w: &[u8], row: &mut [u8])
     requires start { take lead w.now ≡ zeros lead }
     ensures { row.new ≡ cleared f lead w.now row.old }
 {
-    let factor = f.neg(row[lead]);
+    let digit = row[lead];
+    if digit == 0 {
+        return;
+    }
+    let factor = f.neg(digit);
     lanes::axpy(f, factor, &w[lead..], &mut row[lead..]);
 }
 

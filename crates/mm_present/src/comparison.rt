@@ -14,7 +14,8 @@ use crate::images::are_seen_inside;
 use crate::present::matrix_of;
 use indexmap::IndexSet;
 use mm_base::{Name, NameList, NoMemory};
-use mm_matrix::{Echelon, Matrix};
+use mm_field::Field;
+use mm_matrix::{Echelon, Matrix, first_outside_bits};
 use mm_tree::Tree;
 use std::alloc::Global;
 
@@ -102,6 +103,20 @@ fn in_order(alloc: Global, rows: &Matrix, places: &[Option<usize>]) -> Result<Ma
     Ok(ordered)
 }
 
+/// The first of some rows over GF(2), counted from 0, that is outside the row space of others.
+fn outside_by_bits(alloc: Global, rows: &Matrix, others: &Matrix) -> Result<Option<usize>, NoMemory>
+    requires two { rows.now.f ≡ Field.Two }
+    requires field { others.now.f ≡ rows.now.f }
+    requires columns { others.now.cols ≡ rows.now.cols }
+    ensures first { IfOk result (λ found. found ≡ first_outside rows.now.f rows.now.cols rows.now.rows others.now.rows) }
+    ensures small { IfOk result (λ found. IfSome found (λ i. i + 1 < 2 ^ 64)) }
+{
+    let _ = rows.rows();
+    let _ = others.rows();
+    let found = first_outside_bits(alloc, rows, others)?;
+    Ok(found)
+}
+
 /// The first of some rows, counted from 0, that is outside the row space of others.
 fn outside(alloc: Global, rows: &Matrix, others: &Matrix) -> Result<Option<usize>, NoMemory>
     requires field { others.now.f ≡ rows.now.f }
@@ -110,6 +125,9 @@ fn outside(alloc: Global, rows: &Matrix, others: &Matrix) -> Result<Option<usize
     ensures small { IfOk result (λ found. IfSome found (λ i. i + 1 < 2 ^ 64)) }
 {
     let _ = rows.rows();
+    if let Field::Two = rows.field() {
+        return outside_by_bits(alloc, rows, others);
+    }
     let space = Echelon::of(alloc, others)?;
     let found = space.first_outside(alloc, rows)?;
     Ok(found)
