@@ -84,6 +84,8 @@ impl Automaton for Atom {
 
     ghost marked = { λ a. atom_marked a ∷ [] };
 
+    ghost IsOpen = { λ op a. Unit {0} };
+
     fn leaf(&mut self, alloc: Global, letter: &Letter, room: u64) -> Result<TypeId, AutoFault> {
         match self {
             Atom::Const(auto) => auto.leaf(alloc, letter, room),
@@ -111,6 +113,21 @@ impl Automaton for Atom {
             Atom::Sub(auto) => auto.join(alloc, op, left, right, room),
             Atom::SameSet(auto) => auto.join(alloc, op, left, right, room),
         }
+    }
+
+    fn open(&mut self, _alloc: Global, _op: &Op) -> Result<(), NoMemory> {
+        Ok(())
+    }
+
+    fn join_open(
+        &mut self,
+        alloc: Global,
+        op: &Op,
+        left: TypeId,
+        right: TypeId,
+        room: u64,
+    ) -> Result<TypeId, AutoFault> {
+        self.join(alloc, op, left, right, room)
     }
 
     fn accepts(&self, id: TypeId) -> bool {

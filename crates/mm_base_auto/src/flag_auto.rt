@@ -90,6 +90,8 @@ impl<R: FlagRule> Automaton for FlagAuto<R> {
 
     ghost marked = { λ a. flag_values (take a.flags.mark a.flags.flags.items) ∷ [] };
 
+    ghost IsOpen = { λ op a. Unit {0} };
+
     fn leaf(&mut self, alloc: Global, letter: &Letter, room: u64) -> Result<TypeId, AutoFault> {
         let flag = self.rule.at_leaf(letter);
         self.flags.put(alloc, flag, room)
@@ -107,6 +109,21 @@ impl<R: FlagRule> Automaton for FlagAuto<R> {
             .rule
             .at_join(self.flags.get(left), self.flags.get(right));
         self.flags.put(alloc, flag, room)
+    }
+
+    fn open(&mut self, _alloc: Global, _op: &Op) -> Result<(), NoMemory> {
+        Ok(())
+    }
+
+    fn join_open(
+        &mut self,
+        alloc: Global,
+        op: &Op,
+        left: TypeId,
+        right: TypeId,
+        room: u64,
+    ) -> Result<TypeId, AutoFault> {
+        self.join(alloc, op, left, right, room)
     }
 
     fn accepts(&self, id: TypeId) -> bool {

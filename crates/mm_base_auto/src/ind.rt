@@ -189,6 +189,8 @@ impl Automaton for IndAuto {
 
     ghost marked = { λ a. ind_values (take a.values.mark a.values.table) ∷ [] };
 
+    ghost IsOpen = { λ op a. Unit {0} };
+
     fn leaf(&mut self, alloc: Global, letter: &Letter, room: u64) -> Result<TypeId, AutoFault> {
         let value = self.leaf_value(letter);
         self.put(alloc, &value, room)
@@ -206,6 +208,21 @@ impl Automaton for IndAuto {
         let right_value = *self.values.get(right);
         let value = joined_in(alloc, op, &left_value, &right_value, &mut self.rows)?;
         self.put(alloc, &value, room)
+    }
+
+    fn open(&mut self, _alloc: Global, _op: &Op) -> Result<(), NoMemory> {
+        Ok(())
+    }
+
+    fn join_open(
+        &mut self,
+        alloc: Global,
+        op: &Op,
+        left: TypeId,
+        right: TypeId,
+        room: u64,
+    ) -> Result<TypeId, AutoFault> {
+        self.join(alloc, op, left, right, room)
     }
 
     fn accepts(&self, id: TypeId) -> bool {

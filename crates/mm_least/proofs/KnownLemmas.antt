@@ -28,7 +28,7 @@ use Rattle.mm_least.specs.BestLaws.{Different, same_itself, put_all-append}
 use Rattle.mm_least.specs.Transitions.{TransitionValue, ArePlaces, named, IsTransition, IsKnown}
 use Rattle.mm_least.specs.declared.log.Entry.{Entry}
 use Rattle.mm_least.specs.Logs.{AreApart, IsLog, Offered, standing}
-use Rattle.mm_least.specs.KnownRows.{AreColumns, AreBelow, Reads, PutsAll, LogsKnown, RowsKnown}
+use Rattle.mm_least.specs.KnownRows.{AreRowPlaces, AreBelow, Reads, PutsAll, RowsKnown}
 use Rattle.mm_least.specs.NodeRowsValue.{NodeValue}
 use Rattle.mm_least.specs.EmptySets.{ComesFromBoth}
 use Rattle.mm_least.specs.RowCalls.{CanBeJoined, IsJoinRows, MadeRows, MakesRows, IsNodeAgain, row_types}
@@ -147,27 +147,37 @@ all_taken [] (suc k) l = refl
 all_taken (r ∷ rows) zero l = absurd (omega (arith, l))
 all_taken (r ∷ rows) (suc k) l = ap (λ rs. r ∷ rs) (all_taken rows k (omega (arith, l)))
 
--- columns of the types of rows
+-- a bound of numbers
 module _ (ids : List ℕ) where
-  pub columns_next : (rows : List Row) (k : ℕ) → k < length rows → (column : ℕ) → column < length ids → get_or ids column 0 ≡ (get_or rows k no_row).id → (columns : List ℕ) → AreColumns ids (take k rows) columns
-      → AreColumns ids (take (k + 1) rows) (columns ++ column ∷ [])
-  columns_next rows k l column m is columns h = record {
-    placed = append_fits (λ p. p < length ids) columns (column ∷ []) h.placed (m, tt);
+  below_more : (m n : ℕ) → m ≤ n → (ks : List ℕ) → AllFit (λ k. k < m) ks → AllFit (λ k. k < n) ks
+  below_more m n l [] h = tt
+  below_more m n l (k ∷ ks) h = ((let i = h.0 in omega (arith, i, l)), below_more m n l ks h.1)
+
+  pub bound_next : (k m n : ℕ) → k < length ids → m ≤ n → get_or ids k 0 < n → AllFit (λ i. i < m) (take k ids) → AllFit (λ i. i < n) (take (k + 1) ids)
+  bound_next k m n l up above h =
+      subst (AllFit (λ i. i < n)) (sym (take_at_read ids k 0 l).1) (append_fits (λ i. i < n) (take k ids) (get_or ids k 0 ∷ []) (below_more m n up (take k ids) h) (above, tt))
+
+-- places of the types of rows
+module _ (ids : List ℕ) where
+  pub places_next : (rows : List Row) (k : ℕ) → k < length rows → (place : ℕ) → place < length ids → get_or ids place 0 ≡ (get_or rows k no_row).id → (places : List ℕ) → AreRowPlaces ids (take k rows) places
+      → AreRowPlaces ids (take (k + 1) rows) (places ++ place ∷ [])
+  places_next rows k l place m is places h = record {
+    placed = append_fits (λ p. p < length ids) places (place ∷ []) h.placed (m, tt);
     named_so =
-        map-append (λ p. get_or ids p 0) columns (column ∷ []) ∙ (λ i. h.named_so i ++ is i ∷ []) ∙ sym (map-append (λ (r : Row). r.id) (take k rows) (get_or rows k no_row ∷ []))
+        map-append (λ p. get_or ids p 0) places (place ∷ []) ∙ (λ i. h.named_so i ++ is i ∷ []) ∙ sym (map-append (λ (r : Row). r.id) (take k rows) (get_or rows k no_row ∷ []))
         ∙ ap (map (λ (r : Row). r.id)) (sym (take_at_read rows k no_row l).1);
   }
 
-  module _ (rows : List Row) (columns : List ℕ) (h : AreColumns ids rows columns) where
-    pub columns_long : length columns ≡ length rows
-    columns_long = sym (length-map columns (λ p. get_or ids p 0)) ∙ ap length h.named_so ∙ length-map rows (λ (r : Row). r.id)
+  module _ (rows : List Row) (places : List ℕ) (h : AreRowPlaces ids rows places) where
+    pub places_long : length places ≡ length rows
+    places_long = sym (length-map places (λ p. get_or ids p 0)) ∙ ap length h.named_so ∙ length-map rows (λ (r : Row). r.id)
 
-    pub column_placed : (k : ℕ) → k < length rows → get_or columns k 0 < length ids
-    column_placed k l = fit_place (λ p. p < length ids) columns k 0 h.placed (subst (λ n. k < n) (sym columns_long) l)
+    pub row_placed : (k : ℕ) → k < length rows → get_or places k 0 < length ids
+    row_placed k l = fit_place (λ p. p < length ids) places k 0 h.placed (subst (λ n. k < n) (sym places_long) l)
 
-    pub column_named : (k : ℕ) → k < length rows → get_or ids (get_or columns k 0) 0 ≡ (get_or rows k no_row).id
-    column_named k l =
-        sym (get_or-map (λ p. get_or ids p 0) columns k 0 0 (subst (λ n. k < n) (sym columns_long) l)) ∙ ap (λ xs. get_or xs k 0) h.named_so
+    pub row_named : (k : ℕ) → k < length rows → get_or ids (get_or places k 0) 0 ≡ (get_or rows k no_row).id
+    row_named k l =
+        sym (get_or-map (λ p. get_or ids p 0) places k 0 0 (subst (λ n. k < n) (sym places_long) l)) ∙ ap (λ xs. get_or xs k 0) h.named_so
         ∙ get_or-map (λ (r : Row). r.id) rows k no_row 0 l
 
 module _ (t : TransitionValue) (sized : length t.table ≡ length t.left * length t.right) (placed : ArePlaces t.ids t.table) where
@@ -199,10 +209,6 @@ pub pair_in_table : (t : TransitionValue) → length t.table ≡ length t.left *
 pair_in_table t sized at column l m width w table e =
     subst (λ (xs : List ℕ). at * width + column < length xs) (sym e)
     (subst (λ n. at * width + column < n) (sym sized) (subst (λ n. at * n + column < length t.left * length t.right) (sym w) (column_within (length t.left) (length t.right) at column l m)))
-
-pub logs_known : (t : TransitionValue) (cs : (ℕ → Value) → (Value → Value → Value) → List (Candidate Origin)) (olds : List Entry) (lasts : List (Option ℕ)) (nows : List Entry) (result : Result Bool KeepFault) (b : Bool)
-    → result ≡ Ok b → b ≡ true → LogsKnown t cs olds lasts nows result → IsLog t.ids lasts nows × PutsAll t cs (standing olds) (standing nows)
-logs_known t cs olds lasts nows result b e f h = subst (λ (r : Result Bool KeepFault). LogsKnown t cs olds lasts nows r) (e ∙ ap Ok f) h
 
 pub rows_known : (t : TransitionValue) (cs : (ℕ → Value) → (Value → Value → Value) → List (Candidate Origin)) (olds : List Entry) (nows : List Entry) (rows : List Row) → olds ≡ [] → rows ≡ standing nows
     → PutsAll t cs (standing olds) (standing nows) → PutsAll t cs [] rows

@@ -248,3 +248,7 @@ module _ (F : Formula) (op : OpValue) (olds mids : List (List Value)) (left righ
         let rest = of-whole (type_at F olds) left k d l (join_type op.f F op.op) (typed F olds (shown right)) in
         subst (λ cs. AreTooMany F olds cs rows0 room0) (sym (rest.1 ∙ ap (λ cs. cs ++ rest.0) (of-next (type_at F olds) left k d l (join_type op.f F op.op) (typed F olds (shown right)))))
         (too_many_then F olds mids (all_of (take k left)) (those olds) rest.0 rows0 rows1 room0 room1 p (subst (λ cs. AreTooMany F mids cs rows1 room1) those_stay h))
+
+-- what holds of a formula, a field and lists holds of equal ones
+pub of_same : (P : Formula → Field → List (List Value) → Type 0) (F G : Formula) (f g : Field) (ls ms : List (List Value)) → G ≡ F → g ≡ f → ms ≡ ls → P F f ls → P G g ms
+of_same P F G f g ls ms a b c h = subst (λ X. P X g ms) (sym a) (subst (λ x. P F x ms) (sym b) (subst (λ l. P F f l) (sym c) h))

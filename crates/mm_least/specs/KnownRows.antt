@@ -1,5 +1,5 @@
 -- What a walk over the candidates of a join leaves where a table tells their types.
-use Rattle.std.specs.Prelude.{◌≡◌, ◌<◌, ℕ, nat_eq, Bool, true, false, List, [], map, Option, Some, None, Result, Ok, Err}
+use Rattle.std.specs.Prelude.{◌≡◌, ◌<◌, ℕ, nat_eq, List, [], map, slice_index_or, Option, Some, None, Result, Ok, Err}
 use Rattle.std.specs.declared.vec.Vec.{Vec}
 use Rattle.std.specs.declared.alloc.Global.{Global}
 use Rattle.mm_logic.specs.Value.{Value}
@@ -12,7 +12,7 @@ use Rattle.mm_least.specs.declared.row.Row.{Row}
 use Rattle.mm_least.specs.declared.row.Origin.{Origin}
 use Rattle.mm_least.specs.Rows.{shown}
 use Rattle.mm_least.specs.Candidates.{Candidate, put_all, held_by}
-use Rattle.mm_least.specs.Transitions.{TransitionValue, named, ArePlaces}
+use Rattle.mm_least.specs.Transitions.{TransitionValue, named, ArePlaces, IsPlaceOf}
 use Rattle.mm_least.specs.declared.log.Entry.{Entry}
 use Rattle.mm_least.specs.Logs.{standing, IsLog}
 
@@ -37,26 +37,29 @@ PutsAll t cs rows0 rows =
     → (held_by type rows ≡ put_all (cs type join) (held_by type rows0)) × AreBelow n rows
 
 -- For each row a place at which its type is among these.
-pub record AreColumns (ids : List ℕ) (rows : List Row) (columns : List ℕ) : Type 0 where
-  pub placed : ArePlaces ids columns
-  pub named_so : named ids columns ≡ map (λ r. r.id) rows
+pub record AreRowPlaces (ids : List ℕ) (rows : List Row) (places : List ℕ) : Type 0 where
+  pub placed : ArePlaces ids places
+  pub named_so : named ids places ≡ map (λ r. r.id) rows
 
 -- such places, unless the type of some row is missing
-abbrev pub FindsColumns : List ℕ → List Row → Result (Option (Vec ℕ Global)) KeepFault → Type 0
-FindsColumns ids rows (Ok (Some columns)) = AreColumns ids rows columns.items
-FindsColumns ids rows (Ok None) = Unit {0}
-FindsColumns ids rows (Err e) = e ≡ NoMemory
+abbrev pub FindsPlaces : List ℕ → List Row → Result (Option (Vec ℕ Global)) KeepFault → Type 0
+FindsPlaces ids rows (Ok (Some places)) = AreRowPlaces ids rows places.items
+FindsPlaces ids rows (Ok None) = Unit {0}
+FindsPlaces ids rows (Err e) = e ≡ NoMemory
+
+-- for each number a place at which it is, if any
+abbrev pub IsIndex : List ℕ → List (Option ℕ) → Type 0
+IsIndex ids index = (id : ℕ) → IsPlaceOf ids id (slice_index_or index id None)
+
+-- such an index, or want of memory
+abbrev pub MakesIndex : List ℕ → Result (Vec (Option ℕ) Global) KeepFault → Type 0
+MakesIndex ids (Ok index) = IsIndex ids index.items
+MakesIndex ids (Err e) = e ≡ NoMemory
 
 -- the entries hold the rows
 abbrev pub Logs : TransitionValue → ((ℕ → Value) → (Value → Value → Value) → List (Candidate Origin)) → List Entry → List (Option ℕ) → List Entry → Result (Unit {0}) KeepFault → Type 0
 Logs t cs olds lasts nows (Ok u) = IsLog t.ids lasts nows × PutsAll t cs (standing olds) (standing nows)
 Logs t cs olds lasts nows (Err e) = e ≡ NoMemory
-
--- The entries hold the rows, unless the table lacks the type of some row.
-abbrev pub LogsKnown : TransitionValue → ((ℕ → Value) → (Value → Value → Value) → List (Candidate Origin)) → List Entry → List (Option ℕ) → List Entry → Result Bool KeepFault → Type 0
-LogsKnown t cs olds lasts nows (Ok true) = IsLog t.ids lasts nows × PutsAll t cs (standing olds) (standing nows)
-LogsKnown t cs olds lasts nows (Ok false) = Unit {0}
-LogsKnown t cs olds lasts nows (Err e) = e ≡ NoMemory
 
 -- the rows of these candidates, unless the table lacks the type of some row
 abbrev pub RowsKnown : TransitionValue → ((ℕ → Value) → (Value → Value → Value) → List (Candidate Origin)) → Result (Option (Vec Row Global)) KeepFault → Type 0

@@ -6,10 +6,11 @@ ghost use Rattle.mm_least.specs.Candidates.{typed_by, pairs_with, pairs_of};
 ghost use Rattle.mm_least.specs.Passes.{AreLight, most_sum};
 ghost use Rattle.mm_least.specs.Transitions.{ArePlaces};
 ghost use Rattle.mm_least.specs.Logs.{AreApart, IsLog, Offers};
-ghost use Rattle.mm_least.specs.KnownRows.{AreColumns, FindsColumns, Logs, LogsKnown, RowsKnown};
+ghost use Rattle.mm_least.specs.KnownRows.{AreRowPlaces, Logs, RowsKnown};
 
 use crate::log::{Entry, offer, standing};
-use crate::transition::{Transition, place_near};
+use crate::places::places_of;
+use crate::transition::Transition;
 use crate::{LeastFault, Origin, Row};
 use mm_states::TypeId;
 use std::alloc::Global;
@@ -40,29 +41,6 @@ fn offer_pair(
     offer(ids, place, Row { id, weight, origin }, lasts, log)
 }
 
-/// A column of the table for the type of each right row; none where the table lacks one of these types.
-fn columns_of(
-    alloc: Global,
-    ids: &[TypeId],
-    right: &[Row],
-) -> Result<Option<Vec<usize>>, LeastFault>
-    ensures { FindsColumns ids.now right.now result }
-{
-    let mut columns = Vec::new(alloc);
-    let mut guess = 0;
-    for k in 0..right.len() {
-        let Some(column) = place_near(ids, right[k].id, guess) else {
-            return Ok(None);
-        };
-        guess = column + 1;
-        match columns.push(column) {
-            Ok(()) => {}
-            Err(_) => return Err(LeastFault::NoMemory),
-        }
-    }
-    Ok(Some(columns))
-}
-
 /// The candidates of the left row of a place, which is at `at` in the table, with the right rows, which are at these columns.
 fn offer_with(
     left: &Row,
@@ -79,7 +57,7 @@ fn offer_with(
     requires apart { AreApart transition.now.ids }
     requires there { at < length transition.now.left }
     requires here { slice_index_or transition.now.left at 0 ≡ left.now.id }
-    requires columns { AreColumns transition.now.right right.now columns.now }
+    requires columns { AreRowPlaces transition.now.right right.now columns.now }
     requires left_light { nat_abs left.now.weight ≤ most_sum }
     requires right_light { AreLight (shown right.now) }
     requires few { length right.now < 4294967296 }
@@ -100,33 +78,31 @@ fn offer_with(
     Ok(())
 }
 
-/// The candidates of a join, whose right rows are at these columns; false where the table lacks the type of a left row.
+/// The candidates of a join, whose left rows are at these places of the table and whose right rows are at these columns.
 fn offer_all(
     left: &[Row],
+    places: &[usize],
     right: &[Row],
     columns: &[usize],
     transition: &Transition,
     lasts: &mut Vec<Option<usize>>,
     log: &mut Vec<Entry>,
-) -> Result<bool, LeastFault>
+) -> Result<(), LeastFault>
     requires sized { length transition.now.table ≡ length transition.now.left * length transition.now.right }
     requires placed { ArePlaces transition.now.ids transition.now.table }
     requires apart { AreApart transition.now.ids }
-    requires columns { AreColumns transition.now.right right.now columns.now }
+    requires places { AreRowPlaces transition.now.left left.now places.now }
+    requires columns { AreRowPlaces transition.now.right right.now columns.now }
     requires left_light { AreLight (shown left.now) }
     requires few_left { length left.now < 4294967296 }
     requires right_light { AreLight (shown right.now) }
     requires few { length right.now < 4294967296 }
     requires log { IsLog transition.now.ids lasts.old.items log.old.items }
-    ensures { LogsKnown transition.now (λ type join. pairs_of join (typed_by type (shown left.now)) 0 (typed_by type (shown right.now)))
+    ensures { Logs transition.now (λ type join. pairs_of join (typed_by type (shown left.now)) 0 (typed_by type (shown right.now)))
         log.old.items lasts.new.items log.new.items result }
 {
-    let mut guess = 0;
     for k in 0..left.len() {
-        let Some(at) = place_near(&transition.left, left[k].id, guess) else {
-            return Ok(false);
-        };
-        guess = at + 1;
+        let at = places[k];
         match offer_with(
             &left[k], k as u32, at, right, columns, transition, lasts, log,
         ) {
@@ -134,7 +110,7 @@ fn offer_all(
             Err(fault) => return Err(fault),
         }
     }
-    Ok(true)
+    Ok(())
 }
 
 /// The rows of a join, by the types that are known; none where the table lacks the type of a row.
@@ -154,7 +130,12 @@ pub(crate) fn known_rows(
     ensures { RowsKnown transition.now (λ type join. pairs_of join (typed_by type (shown left.now)) 0 (typed_by type (shown right.now)))
         result }
 {
-    let columns = match columns_of(alloc, &transition.right, right) {
+    let places = match places_of(alloc, &transition.left, left) {
+        Ok(Some(places)) => places,
+        Ok(None) => return Ok(None),
+        Err(fault) => return Err(fault),
+    };
+    let columns = match places_of(alloc, &transition.right, right) {
         Ok(Some(columns)) => columns,
         Ok(None) => return Ok(None),
         Err(fault) => return Err(fault),
@@ -165,12 +146,13 @@ pub(crate) fn known_rows(
     let Ok(mut log) = Vec::with_capacity(alloc, transition.ids.len()) else {
         return Err(LeastFault::NoMemory);
     };
-    match offer_all(left, right, &columns, transition, &mut lasts, &mut log) {
-        Ok(true) => match standing(alloc, &lasts, &log) {
+    match offer_all(
+        left, &places, right, &columns, transition, &mut lasts, &mut log,
+    ) {
+        Ok(()) => match standing(alloc, &lasts, &log) {
             Ok(rows) => Ok(Some(rows)),
             Err(fault) => Err(fault),
         },
-        Ok(false) => Ok(None),
         Err(fault) => Err(fault),
     }
 }

@@ -10,6 +10,7 @@ mod least;
 mod log;
 mod node_rows;
 mod pass;
+mod places;
 mod row;
 mod transition;
 

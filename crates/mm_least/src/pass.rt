@@ -123,7 +123,7 @@ fn put_new(row: Row, found: &mut Found, room: &mut u64) -> Result<(), LeastFault
     found.put_new(row)
 }
 
-/// One candidate of a join. The room, the rows and the cells sum to `whole` throughout.
+/// One candidate of a join, by an operator that the automaton is ready for. The room, the rows and the cells sum to `whole` throughout.
 fn add_pair<A: Automaton>(
     alloc: Global,
     automaton: &mut A,
@@ -135,6 +135,7 @@ fn add_pair<A: Automaton>(
     found: &mut Found,
     room: &mut u64,
 ) -> Result<(), LeastFault>
+    requires open { A.IsOpen op.now automaton.old }
     requires whole { whole ≡ room.old + length (rows_of found.old) + list_cells (parts (A.shape automaton.old)) (A.lists automaton.old) }
     requires whole_few { whole < 4294967296 }
     requires can { CanJoin (A.shape automaton.old) (A.field automaton.old) (A.lists automaton.old) op.now
@@ -145,6 +146,7 @@ fn add_pair<A: Automaton>(
     requires listed { AreIn (A.shape automaton.old) (A.lists automaton.old) (names_of found.old) }
     requires left { nat_abs left.now.weight ≤ most_sum }
     requires right { nat_abs right.now.weight ≤ most_sum }
+    ensures open { A.IsOpen op.now automaton.new }
     ensures shape { A.shape automaton.new ≡ A.shape automaton.old }
     ensures field { A.field automaton.new ≡ A.field automaton.old }
     ensures marked { A.marked automaton.new ≡ A.marked automaton.old }
@@ -156,7 +158,7 @@ fn add_pair<A: Automaton>(
         (names_of found.new) (value_of_join (A.shape automaton.old) (A.lists automaton.old) op.now left.now.id right.now.id ∷ [])) }
 {
     let weight = left.weight + right.weight;
-    match automaton.join(alloc, op, left.id, right.id, *room) {
+    match automaton.join_open(alloc, op, left.id, right.id, *room) {
         Ok(id) => match found.place_of(id) {
             // The type has a row: it was in the lists, and no cell was missing.
             Some(place) => found.put(place, Row { id, weight, origin }),
@@ -169,7 +171,7 @@ fn add_pair<A: Automaton>(
     }
 }
 
-/// The candidates of one left row. The room, the rows and the cells sum to `whole` throughout.
+/// The candidates of one left row, by an operator that the automaton is ready for. The room, the rows and the cells sum to `whole` throughout.
 fn add_pairs_with<A: Automaton>(
     alloc: Global,
     automaton: &mut A,
@@ -181,6 +183,7 @@ fn add_pairs_with<A: Automaton>(
     found: &mut Found,
     room: &mut u64,
 ) -> Result<(), LeastFault>
+    requires open { A.IsOpen op.now automaton.old }
     requires whole { whole ≡ room.old + length (rows_of found.old) + list_cells (parts (A.shape automaton.old)) (A.lists automaton.old) }
     requires whole_few { whole < 4294967296 }
     requires over { letters.IsOver (A.shape automaton.old) (A.field automaton.old) op.now.f }
@@ -194,6 +197,7 @@ fn add_pairs_with<A: Automaton>(
     requires found { IsFound found.old }
     requires within { AreWithin (A.shape automaton.old) (A.lists automaton.old) (shown (rows_of found.old)) }
     requires listed { AreIn (A.shape automaton.old) (A.lists automaton.old) (names_of found.old) }
+    ensures open { A.IsOpen op.now automaton.new }
     ensures shape { A.shape automaton.new ≡ A.shape automaton.old }
     ensures field { A.field automaton.new ≡ A.field automaton.old }
     ensures marked { A.marked automaton.new ≡ A.marked automaton.old }
@@ -212,6 +216,57 @@ fn add_pairs_with<A: Automaton>(
         let origin = Origin::Pair(place, k as u32);
         match add_pair(
             alloc, automaton, op, left, &right[k], origin, whole, found, room,
+        ) {
+            Ok(()) => {}
+            Err(fault) => return Err(fault),
+        }
+    }
+    Ok(())
+}
+
+/// The candidates of a join, by an operator that the automaton is ready for. The room, the rows and the cells sum to `whole` throughout.
+fn add_open_pairs<A: Automaton>(
+    alloc: Global,
+    automaton: &mut A,
+    op: &Op,
+    left: &[Row],
+    right: &[Row],
+    whole: u64,
+    found: &mut Found,
+    room: &mut u64,
+) -> Result<(), LeastFault>
+    requires open { A.IsOpen op.now automaton.old }
+    requires whole { whole ≡ room.old + length (rows_of found.old) + list_cells (parts (A.shape automaton.old)) (A.lists automaton.old) }
+    requires whole_few { whole < 4294967296 }
+    requires over { letters.IsOver (A.shape automaton.old) (A.field automaton.old) op.now.f }
+    requires left { AreOperands (A.shape automaton.old) op.now.f op.now.op.t1 (A.lists automaton.old) (shown left.now) }
+    requires left_light { AreLight (shown left.now) }
+    requires few_left { length left.now < 4294967296 }
+    requires right { AreOperands (A.shape automaton.old) op.now.f op.now.op.t2 (A.lists automaton.old) (shown right.now) }
+    requires right_light { AreLight (shown right.now) }
+    requires few { length right.now < 4294967296 }
+    requires roomy { IsRoomy (A.shape automaton.old) (A.lists automaton.old) room.old }
+    requires exact { IsExact (A.shape automaton.old) (A.lists automaton.old) }
+    requires found { IsFound found.old }
+    requires within { AreWithin (A.shape automaton.old) (A.lists automaton.old) (shown (rows_of found.old)) }
+    requires listed { AreIn (A.shape automaton.old) (A.lists automaton.old) (names_of found.old) }
+    ensures shape { A.shape automaton.new ≡ A.shape automaton.old }
+    ensures field { A.field automaton.new ≡ A.field automaton.old }
+    ensures marked { A.marked automaton.new ≡ A.marked automaton.old }
+    ensures found { OnOk result (IsFound found.new) }
+    ensures passes { Passes (A.shape automaton.old) (A.lists automaton.old) (A.lists automaton.new)
+        (pairs_of (join_type op.now.f (A.shape automaton.old) op.now.op)
+        (typed (A.shape automaton.old) (A.lists automaton.old) (shown left.now)) 0
+        (typed (A.shape automaton.old) (A.lists automaton.old) (shown right.now)))
+        (rows_of found.old) (rows_of found.new) room.old room.new result }
+    ensures told { OnOk result (Told (A.shape automaton.old) (A.lists automaton.old) (A.lists automaton.new) (names_of found.old)
+        (names_of found.new) (types_of (pairs_of (join_type op.now.f (A.shape automaton.old) op.now.op)
+        (typed (A.shape automaton.old) (A.lists automaton.old) (shown left.now)) 0
+        (typed (A.shape automaton.old) (A.lists automaton.old) (shown right.now))))) }
+{
+    for k in 0..left.len() {
+        match add_pairs_with(
+            alloc, automaton, op, &left[k], k as u32, right, whole, found, room,
         ) {
             Ok(()) => {}
             Err(fault) => return Err(fault),
@@ -259,13 +314,8 @@ pub(crate) fn add_pairs<A: Automaton>(
         (typed (A.shape automaton.old) (A.lists automaton.old) (shown left.now)) 0
         (typed (A.shape automaton.old) (A.lists automaton.old) (shown right.now))))) }
 {
-    for k in 0..left.len() {
-        match add_pairs_with(
-            alloc, automaton, op, &left[k], k as u32, right, whole, found, room,
-        ) {
-            Ok(()) => {}
-            Err(fault) => return Err(fault),
-        }
+    match automaton.open(alloc, op) {
+        Ok(()) => add_open_pairs(alloc, automaton, op, left, right, whole, found, room),
+        Err(_) => Err(LeastFault::NoMemory),
     }
-    Ok(())
 }

@@ -1,12 +1,13 @@
 //! What numbers the types of a formula on parse trees: an automaton, whose states are the numbers.
 
-ghost use Rattle.std.specs.Prelude.{◌≡◌, ◌^◌, ◌<◌, List, length, IfOk};
+ghost use Rattle.std.specs.Prelude.{◌≡◌, ◌^◌, ◌<◌, List, length, IfOk, OnOk};
 ghost use Rattle.mm_field.specs.declared.Field.{Field};
 ghost use Rattle.mm_logic.specs.Formula.{Formula};
 ghost use Rattle.mm_logic.specs.Value.{Value};
 ghost use Rattle.mm_logic.specs.Acceptance.{accepts};
 ghost use Rattle.mm_logic.specs.Occurrence.{nodes, list_cells};
 ghost use Rattle.mm_logic.specs.Growth.{root, type_at, no_values};
+ghost use Rattle.mm_ops.specs.OpValue.{OpValue};
 ghost use Rattle.mm_states.specs.Letters.{leaf_type};
 ghost use Rattle.mm_states.specs.Calls.{CanRead, CanJoin, Answers, value_of_join};
 
@@ -36,6 +37,9 @@ pub trait Automaton: Drop {
     /// The lists at the last mark.
     ghost marked: { Self → List (List Value) };
 
+    /// The automaton is ready for joins by an operator.
+    ghost IsOpen: { OpValue → Self → Type 0 };
+
     /// The number of the type that the leaf rule gives. `Full` exactly where the cells of the values that occur in it and are missing
     /// exceed the room.
     fn leaf(&mut self, alloc: Global, letter: &Letter, room: u64) -> Result<TypeId, AutoFault>
@@ -56,6 +60,32 @@ pub trait Automaton: Drop {
         room: u64,
     ) -> Result<TypeId, AutoFault>
         requires { CanJoin (shape self.old) (field self.old) (lists self.old) op.now left right room }
+        ensures shape { shape self.new ≡ shape self.old }
+        ensures field { field self.new ≡ field self.old }
+        ensures marked { marked self.new ≡ marked self.old }
+        ensures answer { Answers (shape self.old) (value_of_join (shape self.old) (lists self.old) op.now left right)
+            (lists self.old) (lists self.new) room result };
+
+    /// Makes the automaton ready for joins by an operator, so that each of them need not look for it.
+    fn open(&mut self, alloc: Global, op: &Op) -> Result<(), NoMemory>
+        ensures shape { shape self.new ≡ shape self.old }
+        ensures field { field self.new ≡ field self.old }
+        ensures lists { lists self.new ≡ lists self.old }
+        ensures marked { marked self.new ≡ marked self.old }
+        ensures open { OnOk result (IsOpen op.now self.new) };
+
+    /// As `join`, by an operator that the automaton is ready for; it stays ready for it.
+    fn join_open(
+        &mut self,
+        alloc: Global,
+        op: &Op,
+        left: TypeId,
+        right: TypeId,
+        room: u64,
+    ) -> Result<TypeId, AutoFault>
+        requires open { IsOpen op.now self.old }
+        requires can { CanJoin (shape self.old) (field self.old) (lists self.old) op.now left right room }
+        ensures open { IsOpen op.now self.new }
         ensures shape { shape self.new ≡ shape self.old }
         ensures field { field self.new ≡ field self.old }
         ensures marked { marked self.new ≡ marked self.old }

@@ -6,11 +6,14 @@ use Rattle.mm_least.specs.Logs.{standing}
 use Rattle.mm_least.specs.KnownRows.{PutsAll}
 use Rattle.mm_least.specs.Passes.{most_sum}
 use Rattle.mm_least.proofs.WalkLemmas.{fit_at}
-use Rattle.mm_least.proofs.KnownLemmas.{no_row, all_taken, of_next_puts}
+use Rattle.mm_least.proofs.KnownLemmas.{no_row, all_taken, row_named, of_next_puts}
 use Rattle.mm_least.proofs.known.offer_all.Goals as goal
 
 pub offer_with-requires-clause-left_light : goal.offer_with-requires-clause-left_light
 offer_with-requires-clause-left_light c = fit_at (λ q. nat_abs q.1 ≤ most_sum) c.args.left.now c.loop-k.k no_row c.requires.left_light c.loop-k-test.true
+
+pub offer_with-requires-clause-here : goal.offer_with-requires-clause-here
+offer_with-requires-clause-here c = row_named c.args.transition.now.left c.args.left.now c.args.places.now c.requires.places c.loop-k.k c.loop-k-test.true
 
 pub loop-k-preserved : goal.loop-k-preserved
 loop-k-preserved c =

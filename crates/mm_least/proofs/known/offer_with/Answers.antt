@@ -7,7 +7,7 @@ use Rattle.mm_least.specs.KnownRows.{PutsAll}
 use Rattle.mm_least.specs.Passes.{most_sum}
 use Rattle.mm_least.specs.Transitions.{TransitionValue}
 use Rattle.mm_least.proofs.WalkLemmas.{fit_at}
-use Rattle.mm_least.proofs.KnownLemmas.{no_row, all_taken, column_placed, column_named, pair_in_table, pair_offered}
+use Rattle.mm_least.proofs.KnownLemmas.{no_row, all_taken, row_placed, row_named, pair_in_table, pair_offered}
 use Rattle.mm_least.proofs.known.offer_with.Goals as goal
 
 pub offer_pair-requires-clause-right : goal.offer_pair-requires-clause-right
@@ -19,7 +19,7 @@ index-made-requires c =
     let long : vec_len c.transition.inside.table ≡ length c.transition.inside.table.items = search rules in
     subst (λ (n : ℕ). c.args.at * c.len.result + get_or c.args.columns.now c.loop-k.k 0 < n) (sym long)
     (pair_in_table c.args.transition.now c.requires.sized c.args.at (get_or c.args.columns.now c.loop-k.k 0) c.requires.there
-    (column_placed c.args.transition.now.right c.args.right.now c.args.columns.now c.requires.columns c.loop-k.k c.loop-k-test.true) c.len.result width c.transition.inside.table.items (ap (λ (t : TransitionValue). t.table) c.transition.view_is))
+    (row_placed c.args.transition.now.right c.args.right.now c.args.columns.now c.requires.columns c.loop-k.k c.loop-k-test.true) c.len.result width c.transition.inside.table.items (ap (λ (t : TransitionValue). t.table) c.transition.view_is))
 
 pub loop-k-preserved : goal.loop-k-preserved
 loop-k-preserved c =
@@ -29,7 +29,7 @@ loop-k-preserved c =
     let columns = c.args.columns.now in
     let k = c.loop-k.k in
     pair_offered T c.requires.sized c.requires.placed c.args.left.now c.args.at c.requires.there c.requires.here right k c.loop-k-test.true c.args.place (get_or columns k 0)
-    T.right refl (column_placed T.right right columns c.requires.columns k c.loop-k-test.true) (column_named T.right right columns c.requires.columns k c.loop-k-test.true)
+    T.right refl (row_placed T.right right columns c.requires.columns k c.loop-k-test.true) (row_named T.right right columns c.requires.columns k c.loop-k-test.true)
     c.len.result width
     c.index-made.result.now c.index-made.result.now c.transition.inside.table.items c.index-made.ensures (ap (λ (t : TransitionValue). t.table) c.transition.view_is)
     c.deref.result.now (c.deref.ensures.value ∙ ap (λ (t : TransitionValue). t.ids) c.transition.view_is)

@@ -15,8 +15,8 @@ cells-requires g c =
     let olds = g.A.Automaton.lists c.args.automaton.now in
     let v = value_of_join (g.A.Automaton.shape c.args.automaton.now) olds c.args.op.now c.args.left.now.id c.args.right.now.id in
     let rows = rows_of c.args.found.now in
-    subst (λ (F : Formula). list_cells (parts F) (g.A.Automaton.lists c.join.new.self) < 4294967296) (sym c.in-Ok.ensures.shape)
-    (cells_below (g.A.Automaton.shape c.args.automaton.now) olds (g.A.Automaton.lists c.join.new.self) v c.in-Ok.id (c.args.left.now.weight +ℤ c.args.right.now.weight) c.args.origin rows rows c.args.room.now c.args.room.now
+    subst (λ (F : Formula). list_cells (parts F) (g.A.Automaton.lists c.join_open.new.self) < 4294967296) (sym c.in-Ok.ensures.shape)
+    (cells_below (g.A.Automaton.shape c.args.automaton.now) olds (g.A.Automaton.lists c.join_open.new.self) v c.in-Ok.id (c.args.left.now.weight +ℤ c.args.right.now.weight) c.args.origin rows rows c.args.room.now c.args.room.now
     c.in-Ok.ensures.answer.0 c.requires.exact c.requires.within c.in-Ok.ensures.answer.1 4294967296 c.requires.can.roomy)
 
 pub overflow_sub-room-in-None : goal.overflow_sub-room-in-None
@@ -24,9 +24,9 @@ overflow_sub-room-in-None g c =
     let olds = g.A.Automaton.lists c.args.automaton.now in
     let v = value_of_join (g.A.Automaton.shape c.args.automaton.now) olds c.args.op.now c.args.left.now.id c.args.right.now.id in
     let rows = rows_of c.args.found.now in
-    let fits = cells_fit (g.A.Automaton.shape c.args.automaton.now) olds (g.A.Automaton.lists c.join.new.self) v c.in-Ok.id (c.args.left.now.weight +ℤ c.args.right.now.weight) c.args.origin rows rows c.args.room.now c.args.room.now
+    let fits = cells_fit (g.A.Automaton.shape c.args.automaton.now) olds (g.A.Automaton.lists c.join_open.new.self) v c.in-Ok.id (c.args.left.now.weight +ℤ c.args.right.now.weight) c.args.origin rows rows c.args.room.now c.args.room.now
     c.in-Ok.ensures.answer.0 c.requires.exact c.requires.within c.in-Ok.ensures.answer.1 in
-    let now = c.cells.ensures ∙ ap (λ (F : Formula). list_cells (parts F) (g.A.Automaton.lists c.join.new.self)) c.in-Ok.ensures.shape in
+    let now = c.cells.ensures ∙ ap (λ (F : Formula). list_cells (parts F) (g.A.Automaton.lists c.join_open.new.self)) c.in-Ok.ensures.shape in
     let whole = c.requires.whole in
     let long = c.count.ensures in
     omega (arith, fits, now, whole, long)
@@ -45,7 +45,7 @@ returns-in-Some-clause-passes g c =
     let place = c.in-Some.ensures in
     let there = subst (λ i. i < length (root F olds)) place.1
     (number_fits (λ i. i < length (root F olds)) c.args.found.now.ids.items c.in-Some.place (c.requires.found.occur (length (root F olds)) c.requires.listed) place.0) in
-    known_passes F olds (g.A.Automaton.lists c.join.new.self) (value_of_join F olds c.args.op.now c.args.left.now.id c.args.right.now.id) c.in-Ok.id (c.args.left.now.weight +ℤ c.args.right.now.weight) c.args.origin
+    known_passes F olds (g.A.Automaton.lists c.join_open.new.self) (value_of_join F olds c.args.op.now c.args.left.now.id c.args.right.now.id) c.in-Ok.id (c.args.left.now.weight +ℤ c.args.right.now.weight) c.args.origin
     rows (rows_of c.put.new.self) c.args.room.now c.in-Ok.ensures.answer.0 c.requires.exact c.requires.within c.in-Ok.ensures.answer.1 there c.put.result
     (subst (λ x. Puts (record { id = c.in-Ok.id; weight = x; origin = c.args.origin }) rows (rows_of c.put.new.self) c.put.result) weight (puts_row _ c.args.found.now c.put.new.self c.put.result c.put.ensures))
 
@@ -53,7 +53,7 @@ pub returns-in-None-clause-passes : goal.returns-in-None-clause-passes
 returns-in-None-clause-passes g c =
     let F = g.A.Automaton.shape c.args.automaton.now in
     let olds = g.A.Automaton.lists c.args.automaton.now in
-    let mids = g.A.Automaton.lists c.join.new.self in
+    let mids = g.A.Automaton.lists c.join_open.new.self in
     let v = value_of_join F olds c.args.op.now c.args.left.now.id c.args.right.now.id in
     let w = c.args.left.now.weight +ℤ c.args.right.now.weight in
     let rows = rows_of c.args.found.now in
@@ -81,13 +81,13 @@ returns-in-Err-clause-passes g c =
 
 pub returns-in-Some-clause-told : goal.returns-in-Some-clause-told
 returns-in-Some-clause-told g c =
-    told_again (g.A.Automaton.shape c.args.automaton.now) (g.A.Automaton.lists c.args.automaton.now) (g.A.Automaton.lists c.join.new.self)
+    told_again (g.A.Automaton.shape c.args.automaton.now) (g.A.Automaton.lists c.args.automaton.now) (g.A.Automaton.lists c.join_open.new.self)
     (value_of_join (g.A.Automaton.shape c.args.automaton.now) (g.A.Automaton.lists c.args.automaton.now) c.args.op.now c.args.left.now.id c.args.right.now.id) _ c.args.found.now c.put.new.self c.put.result
     c.in-Ok.ensures.answer.0 c.requires.listed c.put.ensures
 
 pub returns-in-None-clause-told : goal.returns-in-None-clause-told
 returns-in-None-clause-told g c =
-    told_new (g.A.Automaton.shape c.args.automaton.now) (g.A.Automaton.lists c.args.automaton.now) (g.A.Automaton.lists c.join.new.self)
+    told_new (g.A.Automaton.shape c.args.automaton.now) (g.A.Automaton.lists c.args.automaton.now) (g.A.Automaton.lists c.join_open.new.self)
     (value_of_join (g.A.Automaton.shape c.args.automaton.now) (g.A.Automaton.lists c.args.automaton.now) c.args.op.now c.args.left.now.id c.args.right.now.id) _ c.args.found.now c.put_new.new.found _ c.put_new.new.room c.put_new.result
     c.in-Ok.ensures.answer.0 c.requires.listed c.put_new.ensures
 

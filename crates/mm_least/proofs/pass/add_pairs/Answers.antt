@@ -1,85 +1,73 @@
-use Rattle.std.proofs.Common.{◌≡◌, ◌≤◌, ◌+◌, pos, [], length, slice_index_or, nat_abs, refl, sym, ◌∙◌, subst}
-use Rattle.mm_logic.specs.Formula.{Formula}
+use Rattle.std.proofs.Common.{◌≡◌, ◌+◌, length, sym, ◌∙◌}
+use Rattle.std.specs.Prelude.{OnOk}
 use Rattle.mm_logic.specs.Occurrence.{nodes as parts, list_cells}
 use Rattle.mm_logic.specs.JoinRule.{join_type}
-use Rattle.mm_logic.specs.Growth.{type_at}
-use Rattle.mm_states.specs.Calls.{IsOperand}
+use Rattle.mm_states.specs.Letters as letters
+use Rattle.mm_states.specs.Calls.{IsRoomy}
 use Rattle.mm_nodes.specs.Demands.{IsExact}
-use Rattle.mm_least.specs.declared.row.Row.{Row}
-use Rattle.mm_least.specs.declared.row.Origin.TheVariants.{Out}
 use Rattle.mm_least.specs.Rows.{shown}
-use Rattle.mm_least.specs.Candidates.{types_of, typed, pairs_with}
+use Rattle.mm_least.specs.Candidates.{types_of, typed, pairs_of}
 use Rattle.mm_least.specs.Transitions.{AreIn, Told}
 use Rattle.mm_least.specs.FoundTypes.{names_of, rows_of}
-use Rattle.mm_least.specs.Passes.{Passed, AreTooMany, AreOperands, most_sum}
-use Rattle.mm_least.proofs.WalkLemmas.{passed_none, told_none, still_exact, begins, fit_at, operand_stays, operands_stay, of_step, of_told, of_full}
+use Rattle.mm_least.specs.Passes.{AreOperands, AreWithin, Passes}
+use Rattle.mm_least.proofs.WalkLemmas.{of_same}
 use Rattle.mm_least.proofs.pass.add_pairs.Goals as goal
 
-abbrev none : Row
-none = record { id = 0; weight = pos 0; origin = Out }
+pub add_open_pairs-requires-clause-whole : goal.add_open_pairs-requires-clause-whole
+add_open_pairs-requires-clause-whole g c =
+    of_same (λ F f ls. c.args.whole ≡ c.args.room.now + length (rows_of c.args.found.now) + list_cells (parts F) ls)
+    (g.A.Automaton.shape c.args.automaton.now) (g.A.Automaton.shape c.open.new.self) (g.A.Automaton.field c.args.automaton.now) (g.A.Automaton.field c.open.new.self) (g.A.Automaton.lists c.args.automaton.now) (g.A.Automaton.lists c.open.new.self) c.in-Ok.ensures.shape c.in-Ok.ensures.field c.in-Ok.ensures.lists c.requires.whole
 
-pub loop-k-init : goal.loop-k-init
-loop-k-init g c = (refl, refl, refl, passed_none _ _ (rows_of c.args.found.now) c.args.room.now c.requires.exact c.requires.within, told_none _ _ (names_of c.args.found.now) c.requires.listed, c.requires.found)
+pub add_open_pairs-requires-clause-over : goal.add_open_pairs-requires-clause-over
+add_open_pairs-requires-clause-over g c =
+    of_same (λ F f ls. letters.IsOver F f c.args.op.now.f)
+    (g.A.Automaton.shape c.args.automaton.now) (g.A.Automaton.shape c.open.new.self) (g.A.Automaton.field c.args.automaton.now) (g.A.Automaton.field c.open.new.self) (g.A.Automaton.lists c.args.automaton.now) (g.A.Automaton.lists c.open.new.self) c.in-Ok.ensures.shape c.in-Ok.ensures.field c.in-Ok.ensures.lists c.requires.over
 
-pub add_pairs_with-requires-clause-whole : goal.add_pairs_with-requires-clause-whole
-add_pairs_with-requires-clause-whole g c =
-    subst (λ (G : Formula). c.args.whole ≡ c.loop-k.room + length (rows_of c.loop-k.found) + list_cells (parts G) (g.A.Automaton.lists c.loop-k.automaton)) (sym c.loop-k.invariant.0)
-    (c.requires.whole ∙ sym c.loop-k.invariant.3.taken)
+pub add_open_pairs-requires-clause-left : goal.add_open_pairs-requires-clause-left
+add_open_pairs-requires-clause-left g c =
+    of_same (λ F f ls. AreOperands F c.args.op.now.f c.args.op.now.op.t1 ls (shown c.args.left.now))
+    (g.A.Automaton.shape c.args.automaton.now) (g.A.Automaton.shape c.open.new.self) (g.A.Automaton.field c.args.automaton.now) (g.A.Automaton.field c.open.new.self) (g.A.Automaton.lists c.args.automaton.now) (g.A.Automaton.lists c.open.new.self) c.in-Ok.ensures.shape c.in-Ok.ensures.field c.in-Ok.ensures.lists c.requires.left
 
-pub add_pairs_with-requires-clause-left : goal.add_pairs_with-requires-clause-left
-add_pairs_with-requires-clause-left g c =
-    let op = c.args.op.now in
-    let F = g.A.Automaton.shape c.args.automaton.now in
-    subst (λ (G : Formula). IsOperand G op.f op.op.t1 (g.A.Automaton.lists c.loop-k.automaton) (slice_index_or c.args.left.now c.loop-k.k none).id) (sym c.loop-k.invariant.0)
-    (operand_stays F op.f op.op.t1 _ _ _ (begins F _ _ _ [] [] _ _ _ _ c.loop-k.invariant.3)
-    (fit_at (λ q. IsOperand F op.f op.op.t1 (g.A.Automaton.lists c.args.automaton.now) q.0) c.args.left.now c.loop-k.k none c.requires.left c.loop-k-test.true))
+pub add_open_pairs-requires-clause-right : goal.add_open_pairs-requires-clause-right
+add_open_pairs-requires-clause-right g c =
+    of_same (λ F f ls. AreOperands F c.args.op.now.f c.args.op.now.op.t2 ls (shown c.args.right.now))
+    (g.A.Automaton.shape c.args.automaton.now) (g.A.Automaton.shape c.open.new.self) (g.A.Automaton.field c.args.automaton.now) (g.A.Automaton.field c.open.new.self) (g.A.Automaton.lists c.args.automaton.now) (g.A.Automaton.lists c.open.new.self) c.in-Ok.ensures.shape c.in-Ok.ensures.field c.in-Ok.ensures.lists c.requires.right
 
-pub add_pairs_with-requires-clause-left_light : goal.add_pairs_with-requires-clause-left_light
-add_pairs_with-requires-clause-left_light g c = fit_at (λ q. nat_abs q.1 ≤ most_sum) c.args.left.now c.loop-k.k none c.requires.left_light c.loop-k-test.true
+pub add_open_pairs-requires-clause-roomy : goal.add_open_pairs-requires-clause-roomy
+add_open_pairs-requires-clause-roomy g c =
+    of_same (λ F f ls. IsRoomy F ls c.args.room.now)
+    (g.A.Automaton.shape c.args.automaton.now) (g.A.Automaton.shape c.open.new.self) (g.A.Automaton.field c.args.automaton.now) (g.A.Automaton.field c.open.new.self) (g.A.Automaton.lists c.args.automaton.now) (g.A.Automaton.lists c.open.new.self) c.in-Ok.ensures.shape c.in-Ok.ensures.field c.in-Ok.ensures.lists c.requires.roomy
 
-pub add_pairs_with-requires-clause-right : goal.add_pairs_with-requires-clause-right
-add_pairs_with-requires-clause-right g c =
-    let op = c.args.op.now in
-    let F = g.A.Automaton.shape c.args.automaton.now in
-    subst (λ (G : Formula). AreOperands G op.f op.op.t2 (g.A.Automaton.lists c.loop-k.automaton) (shown c.args.right.now)) (sym c.loop-k.invariant.0)
-    (operands_stay F op.f op.op.t2 _ _ (shown c.args.right.now) (begins F _ _ _ [] [] _ _ _ _ c.loop-k.invariant.3) c.requires.right)
+pub add_open_pairs-requires-clause-exact : goal.add_open_pairs-requires-clause-exact
+add_open_pairs-requires-clause-exact g c =
+    of_same (λ F f ls. IsExact F ls)
+    (g.A.Automaton.shape c.args.automaton.now) (g.A.Automaton.shape c.open.new.self) (g.A.Automaton.field c.args.automaton.now) (g.A.Automaton.field c.open.new.self) (g.A.Automaton.lists c.args.automaton.now) (g.A.Automaton.lists c.open.new.self) c.in-Ok.ensures.shape c.in-Ok.ensures.field c.in-Ok.ensures.lists c.requires.exact
 
-pub add_pairs_with-requires-clause-exact : goal.add_pairs_with-requires-clause-exact
-add_pairs_with-requires-clause-exact g c =
-    subst (λ (G : Formula). IsExact G (g.A.Automaton.lists c.loop-k.automaton)) (sym c.loop-k.invariant.0) (still_exact _ _ _ _ [] [] _ _ _ _ c.loop-k.invariant.3 c.requires.exact)
+pub add_open_pairs-requires-clause-within : goal.add_open_pairs-requires-clause-within
+add_open_pairs-requires-clause-within g c =
+    of_same (λ F f ls. AreWithin F ls (shown (rows_of c.args.found.now)))
+    (g.A.Automaton.shape c.args.automaton.now) (g.A.Automaton.shape c.open.new.self) (g.A.Automaton.field c.args.automaton.now) (g.A.Automaton.field c.open.new.self) (g.A.Automaton.lists c.args.automaton.now) (g.A.Automaton.lists c.open.new.self) c.in-Ok.ensures.shape c.in-Ok.ensures.field c.in-Ok.ensures.lists c.requires.within
 
-pub returns-in-Err-clause-passes : goal.returns-in-Err-clause-passes
-returns-in-Err-clause-passes g c = λ full.
-    let op = c.args.op.now in
-    let lists = g.A.Automaton.lists c.loop-k.automaton in
-    let left = c.args.left.now in
-    let right = c.args.right.now in
-    of_full (g.A.Automaton.shape c.args.automaton.now) op (g.A.Automaton.lists c.args.automaton.now) lists left right c.loop-k.k none c.loop-k-test.true c.requires.left c.requires.right
-    (rows_of c.args.found.now) (rows_of c.loop-k.found) (rows_of c.loop-k.found) c.args.room.now c.loop-k.room c.loop-k.room c.loop-k.invariant.3
-    (subst (λ (G : Formula). AreTooMany G lists (pairs_with (join_type op.f G op.op) (type_at G lists (slice_index_or left c.loop-k.k none).id, (slice_index_or left c.loop-k.k none).weight) c.loop-k.k (typed G lists (shown right)) 0) (rows_of c.loop-k.found) c.loop-k.room)
-    c.loop-k.invariant.0 (c.in-Err.ensures.passes full))
+pub add_open_pairs-requires-clause-listed : goal.add_open_pairs-requires-clause-listed
+add_open_pairs-requires-clause-listed g c =
+    of_same (λ F f ls. AreIn F ls (names_of c.args.found.now))
+    (g.A.Automaton.shape c.args.automaton.now) (g.A.Automaton.shape c.open.new.self) (g.A.Automaton.field c.args.automaton.now) (g.A.Automaton.field c.open.new.self) (g.A.Automaton.lists c.args.automaton.now) (g.A.Automaton.lists c.open.new.self) c.in-Ok.ensures.shape c.in-Ok.ensures.field c.in-Ok.ensures.lists c.requires.listed
 
-pub loop-k-preserved : goal.loop-k-preserved
-loop-k-preserved g c =
-    let op = c.args.op.now in
-    let lists = g.A.Automaton.lists c.loop-k.automaton in
-    let nows = g.A.Automaton.lists c.add_pairs_with.new.automaton in
-    let left = c.args.left.now in
-    let right = c.args.right.now in (
-      c.in-Ok.ensures.shape ∙ c.loop-k.invariant.0,
-      c.in-Ok.ensures.field ∙ c.loop-k.invariant.1,
-      c.in-Ok.ensures.marked ∙ c.loop-k.invariant.2,
-      of_step (g.A.Automaton.shape c.args.automaton.now) op (g.A.Automaton.lists c.args.automaton.now) lists left right c.loop-k.k none c.loop-k-test.true c.requires.left c.requires.right
-          (rows_of c.args.found.now) (rows_of c.loop-k.found) (rows_of c.add_pairs_with.new.found) c.args.room.now c.loop-k.room c.add_pairs_with.new.room c.loop-k.invariant.3 nows
-          (subst (λ (G : Formula). Passed G lists nows (pairs_with (join_type op.f G op.op) (type_at G lists (slice_index_or left c.loop-k.k none).id, (slice_index_or left c.loop-k.k none).weight) c.loop-k.k (typed G lists (shown right)) 0) (rows_of c.loop-k.found) (rows_of c.add_pairs_with.new.found) c.loop-k.room c.add_pairs_with.new.room)
-          c.loop-k.invariant.0 c.in-Ok.ensures.passes),
-      of_told (g.A.Automaton.shape c.args.automaton.now) op (g.A.Automaton.lists c.args.automaton.now) lists left right c.loop-k.k none c.loop-k-test.true c.requires.left c.requires.right
-          (rows_of c.args.found.now) (rows_of c.loop-k.found) (rows_of c.add_pairs_with.new.found) c.args.room.now c.loop-k.room c.add_pairs_with.new.room c.loop-k.invariant.3 nows (names_of c.args.found.now) (names_of c.loop-k.found) (names_of c.add_pairs_with.new.found) c.loop-k.invariant.4
-          (subst (λ (G : Formula). Told G lists nows (names_of c.loop-k.found) (names_of c.add_pairs_with.new.found) (types_of (pairs_with (join_type op.f G op.op) (type_at G lists (slice_index_or left c.loop-k.k none).id, (slice_index_or left c.loop-k.k none).weight) c.loop-k.k (typed G lists (shown right)) 0)))
-          c.loop-k.invariant.0 c.in-Ok.ensures.told),
-      c.in-Ok.ensures.found,
-    )
+pub returns-in-Ok-clause-shape : goal.returns-in-Ok-clause-shape
+returns-in-Ok-clause-shape g c = c.add_open_pairs.ensures.shape ∙ c.in-Ok.ensures.shape
 
-pub add_pairs_with-requires-clause-listed : goal.add_pairs_with-requires-clause-listed
-add_pairs_with-requires-clause-listed g c =
-    subst (λ (G : Formula). AreIn G (g.A.Automaton.lists c.loop-k.automaton) (names_of c.loop-k.found)) (sym c.loop-k.invariant.0) c.loop-k.invariant.4.within
+pub returns-in-Ok-clause-field : goal.returns-in-Ok-clause-field
+returns-in-Ok-clause-field g c = c.add_open_pairs.ensures.field ∙ c.in-Ok.ensures.field
+
+pub returns-in-Ok-clause-marked : goal.returns-in-Ok-clause-marked
+returns-in-Ok-clause-marked g c = c.add_open_pairs.ensures.marked ∙ c.in-Ok.ensures.marked
+
+pub returns-in-Ok-clause-passes : goal.returns-in-Ok-clause-passes
+returns-in-Ok-clause-passes g c =
+    of_same (λ F f ls. Passes F ls (g.A.Automaton.lists c.add_open_pairs.new.automaton) (pairs_of (join_type c.args.op.now.f F c.args.op.now.op) (typed F ls (shown c.args.left.now)) 0 (typed F ls (shown c.args.right.now))) (rows_of c.args.found.now) (rows_of c.add_open_pairs.new.found) c.args.room.now c.add_open_pairs.new.room c.add_open_pairs.result)
+    (g.A.Automaton.shape c.open.new.self) (g.A.Automaton.shape c.args.automaton.now) (g.A.Automaton.field c.open.new.self) (g.A.Automaton.field c.args.automaton.now) (g.A.Automaton.lists c.open.new.self) (g.A.Automaton.lists c.args.automaton.now) (sym c.in-Ok.ensures.shape) (sym c.in-Ok.ensures.field) (sym c.in-Ok.ensures.lists) c.add_open_pairs.ensures.passes
+
+pub returns-in-Ok-clause-told : goal.returns-in-Ok-clause-told
+returns-in-Ok-clause-told g c =
+    of_same (λ F f ls. OnOk c.add_open_pairs.result (Told F ls (g.A.Automaton.lists c.add_open_pairs.new.automaton) (names_of c.args.found.now) (names_of c.add_open_pairs.new.found) (types_of (pairs_of (join_type c.args.op.now.f F c.args.op.now.op) (typed F ls (shown c.args.left.now)) 0 (typed F ls (shown c.args.right.now))))))
+    (g.A.Automaton.shape c.open.new.self) (g.A.Automaton.shape c.args.automaton.now) (g.A.Automaton.field c.open.new.self) (g.A.Automaton.field c.args.automaton.now) (g.A.Automaton.lists c.open.new.self) (g.A.Automaton.lists c.args.automaton.now) (sym c.in-Ok.ensures.shape) (sym c.in-Ok.ensures.field) (sym c.in-Ok.ensures.lists) c.add_open_pairs.ensures.told

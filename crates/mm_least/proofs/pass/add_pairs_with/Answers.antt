@@ -17,7 +17,7 @@ abbrev none : Row
 none = record { id = 0; weight = pos 0; origin = Out }
 
 pub loop-k-init : goal.loop-k-init
-loop-k-init g c = (refl, refl, refl, passed_none _ _ (rows_of c.args.found.now) c.args.room.now c.requires.exact c.requires.within, told_none _ _ (names_of c.args.found.now) c.requires.listed, c.requires.found)
+loop-k-init g c = (refl, refl, refl, passed_none _ _ (rows_of c.args.found.now) c.args.room.now c.requires.exact c.requires.within, told_none _ _ (names_of c.args.found.now) c.requires.listed, c.requires.found, c.requires.open)
 
 pub add_pair-requires-clause-whole : goal.add_pair-requires-clause-whole
 add_pair-requires-clause-whole g c =
@@ -81,6 +81,7 @@ loop-k-preserved g c =
           (subst (λ (G : Formula). Told G lists nows (names_of c.loop-k.found) (names_of c.add_pair.new.found) (types_of (candidate (value_of_join G lists op left.id (slice_index_or right c.loop-k.k none).id) (left.weight +ℤ (slice_index_or right c.loop-k.k none).weight) (Pair c.args.place c.loop-k.k) ∷ [])))
           c.loop-k.invariant.0 c.in-Ok.ensures.told),
       c.in-Ok.ensures.found,
+      c.in-Ok.ensures.open,
     )
 
 pub add_pair-requires-clause-listed : goal.add_pair-requires-clause-listed

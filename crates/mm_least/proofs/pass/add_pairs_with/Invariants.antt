@@ -18,4 +18,4 @@ invariant-loop-k g l =
     × Told (g.A.Automaton.shape l.fn.automaton) (g.A.Automaton.lists l.fn.automaton) (g.A.Automaton.lists l.automaton) (names_of l.fn.found) (names_of l.found)
     (types_of (pairs_with (join_type l.fn.op.f (g.A.Automaton.shape l.fn.automaton) l.fn.op.op) (type_at (g.A.Automaton.shape l.fn.automaton) (g.A.Automaton.lists l.fn.automaton) l.fn.left.id, l.fn.left.weight) l.fn.place
     (typed (g.A.Automaton.shape l.fn.automaton) (g.A.Automaton.lists l.fn.automaton) (shown (take l.k l.fn.right))) 0))
-    × IsFound l.found
+    × IsFound l.found × g.A.Automaton.IsOpen l.fn.op l.automaton

@@ -5,7 +5,7 @@ use Rattle.mm_least.specs.Candidates.{typed, types_of, pairs_of}
 use Rattle.mm_least.specs.Passes.{Passed}
 use Rattle.mm_least.specs.Transitions.{Told}
 use Rattle.mm_least.specs.FoundTypes.{IsFound, names_of, rows_of}
-use Rattle.mm_least.proofs.pass.add_pairs.Given as goal
+use Rattle.mm_least.proofs.pass.add_open_pairs.Given as goal
 
 abbrev pub invariant-loop-k : goal.invariant-loop-k
 invariant-loop-k g l =
@@ -17,4 +17,4 @@ invariant-loop-k g l =
     × Told (g.A.Automaton.shape l.fn.automaton) (g.A.Automaton.lists l.fn.automaton) (g.A.Automaton.lists l.automaton) (names_of l.fn.found) (names_of l.found)
     (types_of (pairs_of (join_type l.fn.op.f (g.A.Automaton.shape l.fn.automaton) l.fn.op.op) (typed (g.A.Automaton.shape l.fn.automaton) (g.A.Automaton.lists l.fn.automaton) (shown (take l.k l.fn.left))) 0
     (typed (g.A.Automaton.shape l.fn.automaton) (g.A.Automaton.lists l.fn.automaton) (shown l.fn.right))))
-    × IsFound l.found
+    × IsFound l.found × g.A.Automaton.IsOpen l.fn.op l.automaton
