@@ -20,8 +20,8 @@ use Rattle.mm_checker.specs.Certificates.{Subject, State, Answer, Next, start, â
 use Rattle.mm_checker.specs.Certificates.Answer.{Truth}
 use Rattle.mm_checker.specs.Certificates.Next.{Goes, Done}
 use Rattle.mm_checker.specs.Laws.{IsRight, IsSubject, PassingCertificatesAreRight}
-use Rattle.mm_checker.specs.declared.certificate.CertLine.{CertLine}
-use Rattle.mm_checker.specs.declared.certificate.CertLine.TheVariants.{Val, More, Leaf, Glue, Node, Has, HasSet, End}
+use Rattle.mm_cert_lines.specs.declared.certificate.CertLine.{CertLine}
+use Rattle.mm_cert_lines.specs.declared.certificate.CertLine.TheVariants.{Val, More, Leaf, Glue, Node, Has, HasSet, End}
 use Rattle.mm_checker.proofs.NodeLemmas.{Stands, IsRow, type_at, any_at}
 use Rattle.mm_checker.proofs.StateLemmas.{bind_is, only_if_is, meant, tree_of, trees_of, begun_line, AllStand, IsSound, IsEnded, start_sound, ended_sound, val_sound, more_sound, leaf_sound, glue_sound}
 use Rattle.mm_checker.proofs.TreeLemmas.{IsIdle, node_ended_sound, node_sound, has_sound}

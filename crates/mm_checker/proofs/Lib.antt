@@ -6,3 +6,11 @@ pub mod ChoiceLemmas
 pub mod StateLemmas
 pub mod TreeLemmas
 pub mod AnswerLemmas
+pub mod SpaceLemmas
+pub mod ClaimLemmas
+pub mod NumberLemmas
+pub mod PutLemmas
+pub mod RisingLemmas
+pub mod PackedLemmas
+pub mod EndLemmas
+pub mod SizeLemmas

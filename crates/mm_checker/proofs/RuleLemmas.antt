@@ -26,20 +26,20 @@ use Rattle.mm_logic_laws.proofs.TypeLemmas.{set_join-collected}
 use Rattle.std.proofs.lemmas.List.Folds.{list_any-append}
 use Rattle.mm_tree.specs.NamedTree.{Tree}
 use Rattle.mm_tree.specs.NamedTree.Tree.{Elem, Void, Join}
-use Rattle.mm_checker.specs.Hashing.{same_numbers}
+use Rattle.mm_cert_lines.specs.Hashing.{same_numbers}
 use Rattle.mm_checker.specs.Places.{first_part, second_part}
 use Rattle.mm_checker.specs.Contents.{value_of, is_same, is_same_list}
 use Rattle.mm_checker.specs.Claims.{LeafClaims, GlueClaims, at_element, is_atom, glued, glued_pairs, both_parts, all_members, on_either_side, of_atoms, is_same_leaf, is_same_glue, claimed, at_leaf, at_glue, with_number, all_numbers, parts_of, set_of, one_of, atom_content, marks_of, without_slot, with_slot, has_element, leaf_type, leaf_content, atom_value, glue_content}
 use Rattle.mm_checker.specs.declared.certificate.Content.{Content}
 use Rattle.mm_checker.specs.declared.certificate.Content.TheVariants as content
-use Rattle.mm_checker.specs.declared.certificate.GlueKey.{GlueKey}
-use Rattle.mm_checker.specs.declared.certificate.LeafKey.{LeafKey}
+use Rattle.mm_cert_lines.specs.declared.certificate.GlueKey.{GlueKey}
+use Rattle.mm_cert_lines.specs.declared.certificate.LeafKey.{LeafKey}
 use Rattle.mm_checker.proofs.PlaceLemmas.{top, elem_type-top, void_type-top, join_type-top, Begin, begin-top, below, first_of_pair, second_of_pair}
 use Rattle.mm_checker.proofs.MeaningLemmas.{collected-normal}
 
 -- ---- contents that are the same have one value
 
-same_value : (v w : Value) → same v w ≡ true → v ≡ w
+pub same_value : (v w : Value) → same v w ≡ true → v ≡ w
 same_value v w h = value_exact v w (equal (value_cmp v w) h)
   where
     equal : (o : Ordering) → is_eq o ≡ true → o ≡ Equal
@@ -432,7 +432,7 @@ module _ (f : Field) (ps : List Formula) (ls : List Tree) (g : ℕ → Value) wh
       there : (n : ℕ) → at_leaf claims (first_part p) k (with_slot s m) ≡ Some n → g n ≡ leaf_type f F leaf (mark s true (marks_of m))
       there n e = asked (first_part p) F b (with_slot s m) n e ∙ ap (leaf_type f F leaf) (marks_with s m)
 
-      taken : Are g (at_element f claims p k m leaf s) (taken_types f F s leaf (marks_of m))
+      taken : Are g (at_element claims p k m (has_element leaf) s) (taken_types f F s leaf (marks_of m))
       taken = by (has_element leaf)
         where
           by : (e : Bool) → Are g (if e then at_leaf claims (first_part p) k (with_slot s m) ∷ [] else []) (if e then leaf_type f F leaf (mark s true (marks_of m)) ∷ [] else [])
@@ -455,12 +455,12 @@ module _ (f : Field) (ps : List Formula) (ls : List Tree) (g : ℕ → Value) wh
         ∙ pair_leaf f o F G leaf (marks_of m)
     leaf_rule p m (ExSet s F) at c e =
         let b = below ps p (ExSet s F) F at in
-        set_case g (at_leaf claims (first_part p) k (without_slot s m) ∷ at_element f claims p k m leaf s)
+        set_case g (at_leaf claims (first_part p) k (without_slot s m) ∷ at_element claims p k m (has_element leaf) s)
         (leaf_type f F leaf (mark s false (marks_of m)) ∷ taken_types f F s leaf (marks_of m)) (away p F b m s, taken p F b m s) c e
         ∙ set_leaf f s F (marks_of m) leaf
     leaf_rule p m (AllSet s F) at c e =
         let b = below ps p (AllSet s F) F at in
-        set_case g (at_leaf claims (first_part p) k (without_slot s m) ∷ at_element f claims p k m leaf s)
+        set_case g (at_leaf claims (first_part p) k (without_slot s m) ∷ at_element claims p k m (has_element leaf) s)
         (leaf_type f F leaf (mark s false (marks_of m)) ∷ taken_types f F s leaf (marks_of m)) (away p F b m s, taken p F b m s) c e
         ∙ all_set_leaf f s F (marks_of m) leaf
     leaf_rule p m (ExElem s F) at c e =
@@ -496,19 +496,19 @@ module _ (f : Field) (ps : List Formula) (ops : List ℕ → Option Op) (g : ℕ
         ∙ join_type-top f F op (g a) (g b)
 
     module _ (p : ℕ) (F : Formula) (here : Begin ps (first_part p) F) where
-      row : (a : ℕ) (ms : List ℕ) → Are g (map (glued f claims p name op a) ms) (map (join_type f F op (g a)) (map g ms))
+      row : (a : ℕ) (ms : List ℕ) → Are g (map (glued claims p name a) ms) (map (join_type f F op (g a)) (map g ms))
       row a [] = tt
       row a (m ∷ ms) = (glued_is (first_part p) F here a m, row a ms)
 
-      column : (b : ℕ) (ns : List ℕ) → Are g (map (λ n. glued f claims p name op n b) ns) (map (λ x. join_type f F op x (g b)) (map g ns))
+      column : (b : ℕ) (ns : List ℕ) → Are g (map (λ n. glued claims p name n b) ns) (map (λ x. join_type f F op x (g b)) (map g ns))
       column b [] = tt
       column b (n ∷ ns) = (glued_is (first_part p) F here n b, column b ns)
 
-      pairs : (ns ms : List ℕ) → Are g (glued_pairs f claims p name op ns ms) (all_pairs (join_type f F op) (map g ns) (map g ms))
+      pairs : (ns ms : List ℕ) → Are g (glued_pairs claims p name ns ms) (all_pairs (join_type f F op) (map g ns) (map g ms))
       pairs [] ms = tt
       pairs (n ∷ ns) ms = are-append g _ _ _ _ (row n ms) (pairs ns ms)
 
-      sets : (x y c : Content) → all_members f claims p name op x y ≡ Some c → value_of g c ≡ set_join (join_type f F op) (value_of g x) (value_of g y)
+      sets : (x y c : Content) → all_members claims p name x y ≡ Some c → value_of g c ≡ set_join (join_type f F op) (value_of g x) (value_of g y)
       sets (content.SetOf ns) (content.SetOf ms) c e =
           set_case g _ _ (pairs ns ms) c e ∙ sym (set_join-collected (join_type f F op) (map g ns) (map g ms))
       sets (content.SetOf ns) (content.Flag n) c e = let no : None ≡ Some c = e in cc
@@ -522,7 +522,7 @@ module _ (f : Field) (ps : List Formula) (ops : List ℕ → Option Op) (g : ℕ
       sets (content.Parts a b) y c e = let no : None ≡ Some c = e in cc
       sets (content.OneOf a b) y c e = let no : None ≡ Some c = e in cc
 
-      ones : (x y c : Content) → on_either_side f claims p name op x y ≡ Some c → value_of g c ≡ elem_join (join_type f F op) (value_of g x) (value_of g y)
+      ones : (x y c : Content) → on_either_side claims p name x y ≡ Some c → value_of g c ≡ elem_join (join_type f F op) (value_of g x) (value_of g y)
       ones (content.OneOf a ns) (content.OneOf b ms) c e =
           one_case g _ _ _ _ (glued_is (first_part p) F here a b) (are-append g _ _ _ _ (column b ns) (row a ms)) c e
           ∙ sym (elem_join-collected (join_type f F op) (g a) (g b) (map g ns) (map g ms))
@@ -538,7 +538,7 @@ module _ (f : Field) (ps : List Formula) (ops : List ℕ → Option Op) (g : ℕ
       ones (content.SetOf ns) y c e = let no : None ≡ Some c = e in cc
 
     pairs_of_parts : (p : ℕ) (o : Connective) (F G : Formula) → Begin ps p (Bin o F G) → (x y c : Content)
-        → both_parts f claims p name op (second_part p F) x y ≡ Some c → value_of g c ≡ join_type f (Bin o F G) op (value_of g x) (value_of g y)
+        → both_parts claims p name (second_part p F) x y ≡ Some c → value_of g c ≡ join_type f (Bin o F G) op (value_of g x) (value_of g y)
     pairs_of_parts p o F G at (content.Parts a b) (content.Parts i k) c e =
         parts_case g _ _ _ _ (glued_is (first_part p) F (first_of_pair ps p o F G at) a i) (glued_is (second_part p F) G (second_of_pair ps p o F G at) b k) c e
     pairs_of_parts p o F G at (content.Parts a b) (content.Flag n) c e = let no : None ≡ Some c = e in cc

@@ -20,10 +20,10 @@ use Rattle.mm_checker.specs.Certificates.Stage.{Values, Claims, Nodes}
 use Rattle.mm_checker.specs.Laws.{IsSubject, NamesOne}
 use Rattle.mm_checker.specs.declared.certificate.Content.{Content}
 use Rattle.mm_checker.specs.declared.certificate.Content.TheVariants as content
-use Rattle.mm_checker.specs.declared.certificate.GlueKey.{GlueKey}
-use Rattle.mm_checker.specs.declared.certificate.LeafKey.{LeafKey}
-use Rattle.mm_checker.specs.declared.certificate.Stated.{Stated}
-use Rattle.mm_checker.specs.declared.certificate.Stated.TheVariants as stated
+use Rattle.mm_cert_lines.specs.declared.certificate.GlueKey.{GlueKey}
+use Rattle.mm_cert_lines.specs.declared.certificate.LeafKey.{LeafKey}
+use Rattle.mm_cert_lines.specs.declared.certificate.Stated.{Stated}
+use Rattle.mm_cert_lines.specs.declared.certificate.Stated.TheVariants as stated
 use Rattle.mm_checker.specs.declared.certificate.Valued.{Valued}
 use Rattle.mm_checker.proofs.PlaceLemmas.{begins}
 use Rattle.mm_checker.proofs.MeaningLemmas.{AreBelow, IsBelow, AreGrounded, meaning_is}

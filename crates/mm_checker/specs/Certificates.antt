@@ -12,12 +12,12 @@ use Rattle.mm_checker.specs.Places.{places}
 use Rattle.mm_checker.specs.Contents.{meaning, is_value, content_at, with_members, is_same}
 use Rattle.mm_checker.specs.Claims.{LeafClaims, GlueClaims, claimed, is_same_leaf, is_same_glue, leaf_content, glue_content, are_spaces_of, has_element}
 use Rattle.mm_checker.specs.NodeLines.{TreeLine, Row, Rooted, lines_from, leaves, choice, node_passes, next_row, with_node}
-use Rattle.mm_checker.specs.declared.certificate.CertLine.{CertLine}
-use Rattle.mm_checker.specs.declared.certificate.CertLine.TheVariants.{Val, More, Leaf, Glue, Node, Has, HasSet, End}
+use Rattle.mm_cert_lines.specs.declared.certificate.CertLine.{CertLine}
+use Rattle.mm_cert_lines.specs.declared.certificate.CertLine.TheVariants.{Val, More, Leaf, Glue, Node, Has, HasSet, End}
 use Rattle.mm_checker.specs.declared.certificate.Content.{Content}
-use Rattle.mm_checker.specs.declared.certificate.GlueKey.{GlueKey}
-use Rattle.mm_checker.specs.declared.certificate.LeafKey.{LeafKey}
-use Rattle.mm_checker.specs.declared.certificate.Stated.{Stated}
+use Rattle.mm_cert_lines.specs.declared.certificate.GlueKey.{GlueKey}
+use Rattle.mm_cert_lines.specs.declared.certificate.LeafKey.{LeafKey}
+use Rattle.mm_cert_lines.specs.declared.certificate.Stated.{Stated}
 use Rattle.mm_checker.specs.declared.certificate.Valued.{Valued}
 
 -- What a certificate is about: a formula over a named tree, and whether it is decided or a least set for its slot 0 is sought.

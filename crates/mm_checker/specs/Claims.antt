@@ -20,8 +20,8 @@ use Rattle.mm_checker.specs.Places.{first_part, second_part}
 use Rattle.mm_checker.specs.Contents.{value_of}
 use Rattle.mm_checker.specs.declared.certificate.Content.{Content}
 use Rattle.mm_checker.specs.declared.certificate.Content.TheVariants as content
-use Rattle.mm_checker.specs.declared.certificate.GlueKey.{GlueKey}
-use Rattle.mm_checker.specs.declared.certificate.LeafKey.{LeafKey}
+use Rattle.mm_cert_lines.specs.declared.certificate.GlueKey.{GlueKey}
+use Rattle.mm_cert_lines.specs.declared.certificate.LeafKey.{LeafKey}
 
 -- ---- claims
 
@@ -102,22 +102,30 @@ leaf_type f F (Elem name vec weight) m = elem_type f F vec m
 leaf_type f F (Void name t) m = void_type f F t
 leaf_type f F (Join name op left right) m = void_type f F op.t3
 
-module _ (f : Field) (claims : LeafClaims) (p k m : ℕ) (leaf : Tree) where
+module _ (claims : LeafClaims) (p k m : ℕ) (has : Bool) where
   -- what is claimed of the part of a quantifier with its variable away from the element, and at it, where there is an element
   abbrev pub without_element : ℕ → Option ℕ
   without_element s = at_leaf claims (first_part p) k (without_slot s m)
 
   abbrev pub at_element : ℕ → List (Option ℕ)
-  at_element s = if has_element leaf then at_leaf claims (first_part p) k (with_slot s m) ∷ [] else []
+  at_element s = if has then at_leaf claims (first_part p) k (with_slot s m) ∷ [] else []
 
+  -- the set of both, and the first with the set of the second
+  abbrev pub set_at_leaf : ℕ → Option Content
+  set_at_leaf s = set_of (all_numbers (without_element s ∷ at_element s))
+
+  abbrev pub one_at_leaf : ℕ → Option Content
+  one_at_leaf s = one_of (without_element s) (all_numbers (at_element s))
+
+module _ (f : Field) (claims : LeafClaims) (p k m : ℕ) (leaf : Tree) where
   -- The content that the leaf rule gives at place p of leaf k with marks m: that of an atom from the leaf, and that of a compound
   -- place from earlier claims of its parts, where these are there.
   abbrev pub leaf_content : Formula → Option Content
   leaf_content (Bin o F G) = parts_of (at_leaf claims (first_part p) k m) (at_leaf claims (second_part p F) k m)
-  leaf_content (ExSet s F) = set_of (all_numbers (without_element s ∷ at_element s))
-  leaf_content (AllSet s F) = set_of (all_numbers (without_element s ∷ at_element s))
-  leaf_content (ExElem s F) = one_of (without_element s) (all_numbers (at_element s))
-  leaf_content (AllElem s F) = one_of (without_element s) (all_numbers (at_element s))
+  leaf_content (ExSet s F) = set_at_leaf claims p k m (has_element leaf) s
+  leaf_content (AllSet s F) = set_at_leaf claims p k m (has_element leaf) s
+  leaf_content (ExElem s F) = one_at_leaf claims p k m (has_element leaf) s
+  leaf_content (AllElem s F) = one_at_leaf claims p k m (has_element leaf) s
   leaf_content (Not F) = None
   leaf_content (Const b) = Some (atom_content f (leaf_type f (Const b) leaf (marks_of m)))
   leaf_content (Ind t) = Some (atom_content f (leaf_type f (Ind t) leaf (marks_of m)))
@@ -147,7 +155,7 @@ is_atom c = false
 abbrev pub atom_value : Content → Value
 atom_value c = value_of (λ n. value.Dead) c
 
-module _ (f : Field) (claims : GlueClaims) (p : ℕ) (name : List ℕ) (op : Op) where
+module _ (claims : GlueClaims) (p : ℕ) (name : List ℕ) where
   abbrev pub glued : ℕ → ℕ → Option ℕ
   glued a b = at_glue claims (first_part p) name a b
 
@@ -170,6 +178,7 @@ module _ (f : Field) (claims : GlueClaims) (p : ℕ) (name : List ℕ) (op : Op)
       one_of (glued a b) (all_numbers (map (λ n. glued n b) ns ++ map (glued a) ms))
   on_either_side x y = None
 
+module _ (f : Field) (claims : GlueClaims) (p : ℕ) (name : List ℕ) (op : Op) where
   abbrev pub of_atoms : Formula → Content → Content → Option Content
   of_atoms F x y =
       if is_atom x && is_atom y then Some (atom_content f (join_type f F op (atom_value x) (atom_value y))) else None
@@ -177,11 +186,11 @@ module _ (f : Field) (claims : GlueClaims) (p : ℕ) (name : List ℕ) (op : Op)
   -- The content that the join rule gives at place p of two contents: that of an atom from them, and that of a compound place from
   -- earlier claims of its parts, where these are there.
   abbrev pub glue_content : Formula → Content → Content → Option Content
-  glue_content (Bin o F G) x y = both_parts (second_part p F) x y
-  glue_content (ExSet s F) x y = all_members x y
-  glue_content (AllSet s F) x y = all_members x y
-  glue_content (ExElem s F) x y = on_either_side x y
-  glue_content (AllElem s F) x y = on_either_side x y
+  glue_content (Bin o F G) x y = both_parts claims p name (second_part p F) x y
+  glue_content (ExSet s F) x y = all_members claims p name x y
+  glue_content (AllSet s F) x y = all_members claims p name x y
+  glue_content (ExElem s F) x y = on_either_side claims p name x y
+  glue_content (AllElem s F) x y = on_either_side claims p name x y
   glue_content (Not F) x y = None
   glue_content (Const b) x y = of_atoms (Const b) x y
   glue_content (Ind t) x y = of_atoms (Ind t) x y

@@ -8,12 +8,12 @@ use Rattle.mm_logic.specs.Occurrence.{same}
 use Rattle.mm_logic.specs.Value.{Value, collected}
 use Rattle.mm_logic.specs.Value.{Value as value}
 use Rattle.mm_checker.specs.Places.{first_part, second_part}
-use Rattle.mm_checker.specs.declared.certificate.AtomWord.{AtomWord}
-use Rattle.mm_checker.specs.declared.certificate.AtomWord.TheVariants as word
+use Rattle.mm_cert_lines.specs.declared.certificate.AtomWord.{AtomWord}
+use Rattle.mm_cert_lines.specs.declared.certificate.AtomWord.TheVariants as word
 use Rattle.mm_checker.specs.declared.certificate.Content.{Content}
 use Rattle.mm_checker.specs.declared.certificate.Content.TheVariants as content
-use Rattle.mm_checker.specs.declared.certificate.Stated.{Stated}
-use Rattle.mm_checker.specs.declared.certificate.Stated.TheVariants as stated
+use Rattle.mm_cert_lines.specs.declared.certificate.Stated.{Stated}
+use Rattle.mm_cert_lines.specs.declared.certificate.Stated.TheVariants as stated
 use Rattle.mm_checker.specs.declared.certificate.Valued.{Valued}
 
 -- ---- which value a number is

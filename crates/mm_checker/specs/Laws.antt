@@ -9,7 +9,7 @@ use Rattle.mm_tree.specs.NamedTree.{Tree, shape, weights, element_names}
 use Rattle.mm_tree.specs.NamedTree.Tree.{Elem, Void, Join}
 use Rattle.mm_checker.specs.Certificates.{Subject, Answer, op_named, start, Passes}
 use Rattle.mm_checker.specs.Certificates.Answer.{Truth, Least, Nothing}
-use Rattle.mm_checker.specs.declared.certificate.CertLine.{CertLine}
+use Rattle.mm_cert_lines.specs.declared.certificate.CertLine.{CertLine}
 
 -- The answer is right: whether the formula holds; a least set, with its weight and the names of its elements; or that no set satisfies
 -- the formula.

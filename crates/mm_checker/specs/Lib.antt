@@ -1,7 +1,10 @@
-pub mod Hashing
 pub mod Places
 pub mod Contents
 pub mod Claims
+pub mod KeptPlaces
+pub mod KeptBinders
 pub mod NodeLines
 pub mod Certificates
+pub mod KeptValues
+pub mod KeptBoundaries
 pub mod Laws

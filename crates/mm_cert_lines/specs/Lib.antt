@@ -1,0 +1,3 @@
+pub mod Hashing
+pub mod Fields
+pub mod LineForm
