@@ -14,3 +14,8 @@ pub mod RisingLemmas
 pub mod PackedLemmas
 pub mod EndLemmas
 pub mod SizeLemmas
+pub mod PutPlaces
+pub mod LineLemmas
+pub mod RowLemmas
+pub mod TableLemmas
+pub mod AcceptanceLemmas

@@ -1,6 +1,8 @@
 -- How the checker finds the places of a formula: the binders around a place, and places put behind others.
 use Rattle.std.specs.Prelude.{◌≡◌, ◌+◌, ℕ, Bool, true, false, List, [], ◌∷◌, ◌++◌, length}
 use Rattle.mm_logic.specs.Formula.{Formula}
+use Rattle.mm_formula.specs.Syntax.{Syntax}
+use Rattle.mm_formula.specs.Syntax.{Syntax as syntax}
 use Rattle.mm_checker.specs.KeptPlaces.{IsPlace}
 use Rattle.mm_checker.specs.declared.places.Binders.{Binders, Outermost, Under'}
 use Rattle.mm_checker.specs.declared.places.Place.{Place}
@@ -25,3 +27,12 @@ ArePlaces p Fs ks = ⊥
 -- The places of some formulas are put behind others.
 abbrev pub PutsPlaces : List Place → List Formula → List Place → Type 0
 PutsPlaces old Fs new = (ks : List Place) × (new ≡ old ++ ks) × ArePlaces (length old) Fs ks
+
+-- an atom that is no `ind`
+abbrev pub IsPlain : Syntax → Type 0
+IsPlain (syntax.Const b) = Unit {0}
+IsPlain (syntax.Member x a) = Unit {0}
+IsPlain (syntax.SameElem x y) = Unit {0}
+IsPlain (syntax.Sub a b) = Unit {0}
+IsPlain (syntax.SameSet a b) = Unit {0}
+IsPlain F = ⊥

@@ -5,6 +5,9 @@ pub mod KeptPlaces
 pub mod KeptBinders
 pub mod NodeLines
 pub mod Certificates
+pub mod KeptLines
+pub mod KeptNodes
 pub mod KeptValues
 pub mod KeptBoundaries
+pub mod KeptAcceptance
 pub mod Laws

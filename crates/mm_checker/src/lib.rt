@@ -8,13 +8,16 @@
 //! A line costs its own length, a look-up for each line that it rests on, and at a node one for each choice.
 #![tactic(auto)]
 
+mod accepts;
 mod boundaries;
 mod certificate;
 mod claims;
 mod laws;
+mod nodes;
 mod places;
 mod rules;
 mod spaces;
+mod tree_lines;
 mod values;
 
 pub use certificate::{Content, Valued};

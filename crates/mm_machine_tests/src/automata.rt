@@ -13,6 +13,7 @@ fn a_constant(rt: HostRuntime) -> Result<(), Fail> {
     let seen = on_elements(alloc, automaton).ok_or("numbers")?;
     assert!(rt; !seen.accepted);
     assert_eq!(rt; (seen.leaf, seen.join), (0, 0));
+    assert_eq!(rt; seen.opened, seen.join);
     assert_eq!(rt; (seen.cells, seen.leaf_cells, seen.fresh_cells), (1, 1, 0));
     Ok(())
 }
@@ -29,6 +30,7 @@ fn independence(rt: HostRuntime) -> Result<(), Fail> {
     let seen = on_elements(alloc, automaton).ok_or("numbers")?;
     assert!(rt; !seen.accepted);
     assert_eq!(rt; (seen.leaf, seen.join), (0, 1));
+    assert_eq!(rt; seen.opened, seen.join);
     assert_eq!(rt; (seen.cells, seen.leaf_cells, seen.fresh_cells), (2, 1, 0));
     Ok(())
 }
@@ -39,6 +41,7 @@ fn a_member(rt: HostRuntime) -> Result<(), Fail> {
     let automaton = MemberAuto::new(alloc, 1, 0);
     let seen = on_elements(alloc, automaton).ok_or("numbers")?;
     assert!(rt; !seen.accepted);
+    assert_eq!(rt; seen.opened, seen.join);
     assert_eq!(rt; (seen.cells, seen.leaf_cells, seen.fresh_cells), (1, 1, 0));
     Ok(())
 }
@@ -49,6 +52,7 @@ fn one_element(rt: HostRuntime) -> Result<(), Fail> {
     let automaton = SameAuto::new(alloc, 1, 2);
     let seen = on_elements(alloc, automaton).ok_or("numbers")?;
     assert!(rt; !seen.accepted);
+    assert_eq!(rt; seen.opened, seen.join);
     assert_eq!(rt; (seen.cells, seen.leaf_cells, seen.fresh_cells), (1, 1, 0));
     Ok(())
 }
@@ -59,6 +63,7 @@ fn a_set_within_another(rt: HostRuntime) -> Result<(), Fail> {
     let automaton = SubAuto::new(alloc, 0, 1);
     let seen = on_elements(alloc, automaton).ok_or("numbers")?;
     assert!(rt; seen.accepted);
+    assert_eq!(rt; seen.opened, seen.join);
     assert_eq!(rt; (seen.cells, seen.leaf_cells, seen.fresh_cells), (1, 1, 0));
     Ok(())
 }
@@ -69,6 +74,7 @@ fn sets_that_are_one(rt: HostRuntime) -> Result<(), Fail> {
     let automaton = Atom::SameSet(SameSetAuto::new(alloc, 0, 1));
     let seen = on_elements(alloc, automaton).ok_or("numbers")?;
     assert!(rt; seen.accepted);
+    assert_eq!(rt; seen.opened, seen.join);
     assert_eq!(rt; (seen.cells, seen.leaf_cells, seen.fresh_cells), (1, 1, 0));
     Ok(())
 }

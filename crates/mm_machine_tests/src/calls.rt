@@ -21,6 +21,8 @@ pub struct Answered {
     pub leaf: TypeId,
     /// The number of the join's type.
     pub join: TypeId,
+    /// The number of the join's type, asked once more after going back, of an automaton that was made ready for the operator.
+    pub opened: TypeId,
     /// Whether the join's type is accepted.
     pub accepted: bool,
     /// The cells after both.
@@ -53,9 +55,12 @@ pub fn answers_of<A: Automaton>(
     automaton.roll_back();
     let leaf_cells = automaton.cells();
     let fresh_cells = cells_of_fresh(alloc, automaton)?;
+    automaton.open(alloc, op)?;
+    let opened = automaton.join_open(alloc, op, leaf, leaf, ROOM)?;
     Ok(Answered {
         leaf,
         join,
+        opened,
         accepted,
         cells,
         leaf_cells,

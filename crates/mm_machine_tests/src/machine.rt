@@ -16,6 +16,7 @@ fn one_set_with_an_element(rt: HostRuntime) -> Result<(), Fail> {
     assert_eq!(rt; parts, 7);
     assert!(rt; seen.accepted);
     assert_eq!(rt; (seen.leaf, seen.join), (0, 1));
+    assert_eq!(rt; seen.opened, seen.join);
     assert_eq!(rt; seen.fresh_cells, 0);
     Ok(())
 }

@@ -39,3 +39,15 @@ cells-leaf_cells-requires g c =
     (sym (c.roll_back.ensures.lists ∙ c.in_ok-join.ensures.marked ∙ c.mark.ensures.marked))
     (leaf_cells (g.A.Automaton.shape m) (g.A.Automaton.field m) c.args.letter.now c.args.op.now c.requires.letter c.requires.field c.requires.left c.requires.right c.requires.over (g.A.Automaton.lists m) (g.A.Automaton.lists n)
     (empty_cells 0 (g.A.Automaton.shape m) (nodes (g.A.Automaton.shape m)) (g.A.Automaton.lists m) c.requires.empty) c.in_ok-leaf.leaf c.in_ok-leaf.ensures.answer))
+
+pub join_open-requires-clause-can : goal.join_open-requires-clause-can
+join_open-requires-clause-can g c =
+    let m = c.args.automaton.now in
+    let n = c.leaf.new.self in
+    let o = c.open.new.self in
+    can_join (g.A.Automaton.shape m) (g.A.Automaton.field m) c.args.letter.now c.args.op.now c.requires.letter c.requires.field c.requires.left c.requires.right c.requires.over (g.A.Automaton.lists m) (g.A.Automaton.lists n)
+    (empty_cells 0 (g.A.Automaton.shape m) (nodes (g.A.Automaton.shape m)) (g.A.Automaton.lists m) c.requires.empty) c.in_ok-leaf.leaf c.in_ok-leaf.ensures.answer
+    (g.A.Automaton.shape o) (g.A.Automaton.field o) (g.A.Automaton.lists o)
+    (c.in_ok-open.ensures.shape ∙ c.roll_back.ensures.shape ∙ c.in_ok-join.ensures.shape ∙ c.mark.ensures.shape ∙ c.in_ok-leaf.ensures.shape)
+    (c.in_ok-open.ensures.field ∙ c.roll_back.ensures.field ∙ c.in_ok-join.ensures.field ∙ c.mark.ensures.field ∙ c.in_ok-leaf.ensures.field)
+    (c.in_ok-open.ensures.lists ∙ c.roll_back.ensures.lists ∙ c.in_ok-join.ensures.marked ∙ c.mark.ensures.marked)
